@@ -1,0 +1,2 @@
+pub mod Or
+pub mod Suits

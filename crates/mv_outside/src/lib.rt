@@ -1,0 +1,19 @@
+//! The outside of a guest and of its host, as traits with a written meaning.
+//!
+//! What an object tells is an `Option` in a ghost member, `None` where it tells nothing, as a real
+//! socket does. Its faults are a count that never falls, and that rises with each failure.
+#![tactic(auto)]
+
+mod console;
+mod fault;
+mod files;
+mod gate;
+mod kernel;
+mod sink;
+
+pub use console::{Console, Line};
+pub use fault::Failed;
+pub use files::{Files, Found};
+pub use gate::Gate;
+pub use kernel::Kernel;
+pub use sink::Sink;
