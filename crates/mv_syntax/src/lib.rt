@@ -1,0 +1,10 @@
+//! The abstract syntax of WebAssembly Core 1.0, without floating point, as far as it is built.
+#![tactic(auto)]
+
+mod first_form;
+mod instr;
+mod ops;
+
+pub use first_form::{FirstForm, NotYet, read_first_form};
+pub use instr::Instr;
+pub use ops::ValType;
