@@ -77,8 +77,15 @@ pub record HasFirstForm (bytes : List ℕ) (form : FirstForm) : Type 0 where
   pub ranges : IsFirstForm form
   pub spelled : bytes ≡ first_form_bytes form
 
+-- what stands behind the call of fd_write
+abbrev pub exit_body : ℕ → List Instr
+exit_body code = Drop ∷ Const I32 code ∷ Call 1 ∷ End ∷ []
+
+-- fd_write of four constants, drop, proc_exit of a constant
+abbrev pub write_body : ℕ → ℕ → ℕ → ℕ → ℕ → List Instr
+write_body fd iovs count result_at code =
+    Const I32 fd ∷ Const I32 iovs ∷ Const I32 count ∷ Const I32 result_at ∷ Call 0 ∷ exit_body code
+
 -- the body of its one function
 abbrev pub body_of : FirstForm → List Instr
-body_of form =
-    Const I32 form.fd ∷ Const I32 form.iovs ∷ Const I32 form.count ∷ Const I32 form.result ∷ Call 0 ∷ Drop ∷
-    Const I32 form.code ∷ Call 1 ∷ End ∷ []
+body_of form = write_body form.fd form.iovs form.count form.result form.code

@@ -1,0 +1,4 @@
+pub mod Config
+pub mod FdWrite
+pub mod Stands
+pub mod Step

@@ -1,0 +1,13 @@
+//! A machine for modules of the first form: its next event, and its state after a reply.
+//!
+//! It is a scaffold, like the form: the machine for every module takes its place. What stays is the
+//! meaning of `fd_write`.
+#![tactic(auto)]
+
+mod event;
+mod fd_write;
+mod machine;
+
+pub use event::{Event, Made};
+pub use fd_write::decode_write;
+pub use machine::Machine;
