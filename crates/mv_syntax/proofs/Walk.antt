@@ -1,5 +1,5 @@
 -- The bytes of a module of the first form, as the reader walks over them.
-use Rattle.std.proofs.Common.{◌≡◌, ℕ, zero, suc, ◌+◌, ◌-◌, ◌/◌, ◌%◌, ◌^◌, ◌<◌, ◌≤◌, Bool, true, false, cond, ltb, List, [], ◌∷◌, ◌++◌, length, length-append, refl, append_assoc, arith, ap, ◌∙◌}
+use Rattle.std.proofs.Common.{◌≡◌, ℕ, zero, suc, ◌+◌, ◌-◌, ◌/◌, ◌%◌, ◌^◌, ◌<◌, ◌≤◌, Bool, true, false, cond, ltb, List, [], ◌∷◌, ◌++◌, length, length-append, refl, append_assoc, arith, ap, ◌∙◌, lit≤}
 use Rattle.mv_syntax.specs.declared.first_form.FirstForm.{FirstForm}
 use Rattle.mv_syntax.specs.Numbers.{unsigned_groups, signed_groups, half, u32_bytes, s32_bytes}
 use Rattle.mv_syntax.specs.FirstForm.{heading, with_length, const_bytes, body_bytes, segments_bytes, first_form_bytes, IsFirstForm}
@@ -101,3 +101,23 @@ sizes form is =
     let bodies = bodies_length (u32_bytes (length (body_bytes form))) (body_bytes form) (unsigned_short 5 (length (body_bytes form))) body in
     let segments = segments_length (s32_bytes form.offset) (u32_bytes (length form.data)) form.data (signed_short 5 32 form.offset) (unsigned_short 5 (length form.data)) bytes in
     record { bodies = omega (arith, bodies); body = omega (arith, body); segments = omega (arith, segments); bytes = omega arith }
+
+-- ---- a module of the first form is short
+
+section_length : (u bytes : List ℕ) (n : ℕ) → length u ≤ 5 → length bytes ≤ n → length (u ++ bytes) ≤ 5 + n
+section_length u bytes n hu hb = omega (arith, length-append u bytes)
+
+two_sections : (front a b : List ℕ) → length front ≤ 119 → length a ≤ 48 → length b ≤ 65555 → length (front ++ ((10 ∷ a) ++ (11 ∷ b))) ≤ 65724
+two_sections front a b hf ha hb = simp length-append (omega arith)
+
+pub form_length : (form : FirstForm) → IsFirstForm form → length (first_form_bytes form) ≤ 65724
+unfolding first_form_bytes
+form_length form is =
+    let body = body_length (s32_bytes form.fd) (s32_bytes form.iovs) (s32_bytes form.count) (s32_bytes form.result) (s32_bytes form.code)
+    (signed_short 5 32 form.fd) (signed_short 5 32 form.iovs) (signed_short 5 32 form.count) (signed_short 5 32 form.result) (signed_short 5 32 form.code) in
+    let bytes : length form.data ≤ 65536 = omega (arith, is.data_fits) in
+    let bodies = bodies_length (u32_bytes (length (body_bytes form))) (body_bytes form) (unsigned_short 5 (length (body_bytes form))) body in
+    let segments = segments_length (s32_bytes form.offset) (u32_bytes (length form.data)) form.data (signed_short 5 32 form.offset) (unsigned_short 5 (length form.data)) bytes in
+    two_sections heading (with_length (1 ∷ with_length (body_bytes form))) (with_length (segments_bytes form)) (lit≤ tt)
+    (section_length (u32_bytes (length (1 ∷ with_length (body_bytes form)))) (1 ∷ with_length (body_bytes form)) 43 (unsigned_short 5 (length (1 ∷ with_length (body_bytes form)))) bodies)
+    (section_length (u32_bytes (length (segments_bytes form))) (segments_bytes form) 65550 (unsigned_short 5 (length (segments_bytes form))) segments)

@@ -1,0 +1,23 @@
+use Rattle.std.proofs.Common.{◌≡◌, ℕ, List, [], ◌∷◌, length, get_or, map, refl, sym, ap, ◌∙◌, arith, rules, string_bytes, codes}
+use Rattle.std.proofs.lemmas.Slice.Eq.{bytes_eq-Decides}
+use Rattle.mv_live.specs.Words.{is_plain}
+use Rattle.mv_live.proofs.words.old_of.Goals as goal
+
+-- a list of two
+two : {A : Type 0} (xs : List A) (a b : A) → length xs ≡ 2 → a ≡ get_or xs 0 a → b ≡ get_or xs 1 b → xs ≡ a ∷ b ∷ []
+two [] a b len first second = absurd (omega arith)
+two (x ∷ []) a b len first second = absurd (omega arith)
+two (x ∷ y ∷ []) a b len first second = cc
+two (x ∷ y ∷ z ∷ xs) a b len first second = absurd (omega arith)
+
+both_are : (a b c d : List ℕ) → a ≡ c → b ≡ d → a ∷ b ∷ [] ≡ c ∷ d ∷ []
+both_are a b c d first second = cc
+
+pub returns-then-is_plain_word-clause-some : goal.returns-then-is_plain_word-clause-some
+returns-then-is_plain_word-clause-some c =
+    let all = two _ _ _ c.if-words-ne2.false c.index-words-0.is c.index-words-1.is in
+    let command = sym c.as_str.ensures.value ∙ (bytes_eq-Decides _ (codes "run")).0 (sym c.if-eq.ensures) in
+    record {
+      words_are = ap (map string_bytes) all ∙ both_are _ _ _ _ command (sym c.as_str-old.ensures.value);
+      plain = search rules;
+    }

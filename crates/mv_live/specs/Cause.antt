@@ -1,0 +1,58 @@
+-- The causes of each ending: what holds where it comes (docs/GUIDE.md, "Statuses").
+use Rattle.std.specs.Prelude.{◌≡◌, ℕ, List, [], ◌∷◌, ◌++◌, Option, ◌⊎◌}
+use Rattle.mv_syntax.specs.declared.first_form.FirstForm.{FirstForm}
+use Rattle.mv_syntax.specs.FirstForm.{HasFirstForm}
+use Rattle.mv_machine.specs.Config.{begun}
+use Rattle.mv_outside.specs.Causes.{Rose}
+use Rattle.mv_outside.specs.Files.{FileMap}
+use Rattle.mv_live.specs.declared.ending.Ending.{Ending}
+use Rattle.mv_live.specs.declared.ending.Ending.TheVariants.{BadWords, NoFile, NotYet, NoMemory, Ran}
+use Rattle.mv_live.specs.declared.log.How.{How}
+use Rattle.mv_live.specs.declared.log.How.TheVariants.{KernelFault}
+use Rattle.mv_live.specs.declared.log.Mark.TheVariants.{End}
+use Rattle.mv_live.specs.declared.log.Entry.TheVariants as entry
+use Rattle.mv_live.specs.declared.log.Log.{Log}
+use Rattle.mv_live.specs.Legal.{running, AreLegal}
+use Rattle.mv_live.specs.Loaded.{IsMissing, IsRefused, StandsAt}
+use Rattle.mv_live.specs.Words.{IsRun}
+
+-- what a command was given, and what came of it
+pub record Facts : Type 0 where
+  pub words : List (List ℕ)
+  -- what stands at each path, where it is told
+  pub files : Option FileMap
+  pub file_faults : ℕ
+  pub file_faults_now : ℕ
+  pub kernel_faults : ℕ
+  pub kernel_faults_now : ℕ
+  pub log : Log
+
+-- the log of a command that started no guest
+pub record IsEmptyLog (log : Log) : Type 0 where
+  pub entries : log.entries.list ≡ []
+  pub bytes : log.start.«module» ≡ []
+  pub args : log.start.args ≡ []
+
+-- A guest ran: its module is the named file, its arguments are that path, and its log is legal by the module's form.
+pub record RanFrom (facts : Facts) (path : List ℕ) (how : How) : Type 0 where
+  pub args_are : facts.log.start.args ≡ path ∷ []
+  pub module_is : StandsAt facts.files path facts.log.start.«module»
+  pub form : FirstForm
+  pub form_is : HasFirstForm facts.log.start.«module» form
+  pub legal : AreLegal (running (begun form)) facts.log.entries.list
+  pub ends : (before : _) × (facts.log.entries.list ≡ before ++ entry.Mark (End how) ∷ [])
+  pub fault : how ≡ KernelFault → Rose facts.kernel_faults facts.kernel_faults_now
+
+abbrev pub HasCause : Facts → Ending → List ℕ → Type 0
+HasCause facts BadWords path = ((old : List ℕ) → IsRun facts.words old → ⊥) × IsEmptyLog facts.log
+HasCause facts NoFile path =
+    IsRun facts.words path × (IsMissing facts.files path ⊎ Rose facts.file_faults facts.file_faults_now) × IsEmptyLog facts.log
+HasCause facts NotYet path = IsRun facts.words path × IsRefused facts.files path × IsEmptyLog facts.log
+HasCause facts NoMemory path = IsRun facts.words path × IsEmptyLog facts.log
+HasCause facts (Ran how) path = IsRun facts.words path × RanFrom facts path how
+
+-- the log is legal by the form of its module, or there is no guest and no entry
+abbrev pub IsLegal : Log → Type 0
+IsLegal log =
+    (log.entries.list ≡ [])
+    ⊎ ((form : FirstForm) × HasFirstForm log.start.«module» form × AreLegal (running (begun form)) log.entries.list)
