@@ -1,18 +1,17 @@
 -- Equal calls, and that an answer which fits another call suits it.
-use Rattle.std.specs.Prelude.{◌≡◌, ◌⊎◌, ◌↔◌, ℕ, Bool, true, false, ◌&&◌, ◌||◌, ◌==◌, nat_le, nat_eq, List, length, IsTrue, refl}
-use Rattle.std.specs.Str.{bytes_eq}
+use Rattle.std.specs.Prelude.{◌≡◌, ◌⊎◌, ◌↔◌, ℕ, Bool, true, false, ◌&&◌, ◌||◌, ◌==◌, nat_le, List, length, IsTrue, refl}
 use Rattle.std.specs.Bool.{Decides}
-use Rattle.std.proofs.Common.{arith, ap, sym, subst, ◌∙◌, inl, inr}
+use Rattle.std.proofs.Common.{arith, ap, sym, subst, inl, inr}
 use Rattle.std.proofs.lemmas.Bool.Decides.{nat_tests, Decides-eqb}
 use Rattle.std.proofs.lemmas.Slice.Eq.{bytes_eq-Decides, slice_eq-Decides}
 use Rattle.mv_calls.specs.Suits.{suits_of}
-use Rattle.mv_calls.specs.Fits.{fits_of, is_same_call, is_same_sub, are_same_subs, is_within, reads_enough}
+use Rattle.mv_calls.specs.Fits.{fits_of, is_same_call, is_same_sub, are_same_subs, reads_enough}
 use Rattle.mv_calls.specs.declared.subs.Sub.{Sub}
 use Rattle.mv_calls.specs.declared.subs.Sub.TheVariants as sub
 use Rattle.mv_calls.specs.declared.calls.Call.{Call}
 use Rattle.mv_calls.specs.declared.calls.Call.TheVariants.{Clock, Random, Read, Write, Close, FdStat, Yield, Poll, Accept, Shutdown}
 use Rattle.mv_calls.specs.declared.calls.Reply.{Reply}
-use Rattle.mv_calls.specs.declared.calls.Reply.TheVariants.{Errno, Done, Bytes, Count, Fd, Time, Stat, Ready}
+use Rattle.mv_calls.specs.declared.calls.Reply.TheVariants.{Errno, Bytes}
 
 first_of_two : (a b : Bool) → a && b ≡ true → a ≡ true
 first_of_two true b h = refl

@@ -1,12 +1,12 @@
 -- A reply that suits has place in what is made for its call.
-use Rattle.std.specs.Prelude.{◌≡◌, ℕ, ◌+◌, ◌<◌, ◌≤◌, Bool, true, false, ◌&&◌, nat_lt, nat_le, List, [], ◌∷◌, length, drop, IsTrue, refl}
-use Rattle.std.proofs.Common.{arith, ap, sym, subst, ◌∙◌, cond}
+use Rattle.std.specs.Prelude.{◌≡◌, ℕ, ◌+◌, ◌<◌, ◌≤◌, Bool, true, false, ◌&&◌, nat_lt, List, [], ◌∷◌, length, drop, IsTrue, refl}
+use Rattle.std.proofs.Common.{arith}
 use Rattle.std.proofs.lemmas.Bool.Decides.{nat_tests}
 use Rattle.std.proofs.lemmas.List.{length-drop}
 use Rattle.mv_calls.specs.Suits.{suits_of, room_of, reply_len, are_rising, are_below}
 use Rattle.mv_calls.specs.declared.happenings.Happened.{Happened}
 use Rattle.mv_calls.specs.declared.calls.Call.{Call}
-use Rattle.mv_calls.specs.declared.calls.Call.TheVariants.{Clock, Random, Read, Write, Close, FdStat, Yield, Poll, Accept, Shutdown}
+use Rattle.mv_calls.specs.declared.calls.Call.TheVariants.{Random, Read, Poll}
 use Rattle.mv_calls.specs.declared.calls.Reply.{Reply}
 use Rattle.mv_calls.specs.declared.calls.Reply.TheVariants.{Errno, Done, Bytes, Count, Fd, Time, Stat, Ready}
 

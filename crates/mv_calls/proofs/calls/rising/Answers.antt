@@ -1,5 +1,5 @@
 -- At the end at most one event is left.
-use Rattle.std.proofs.Common.{arith, sym, ◌∙◌, ◌-◌, ◌≤◌, ◌+◌, length}
+use Rattle.std.proofs.Common.{arith, sym, ◌∙◌, ◌-◌}
 use Rattle.mv_calls.proofs.RoomLaws.{last_rising}
 use Rattle.mv_calls.proofs.calls.rising.Goals as goal
 

@@ -1,5 +1,5 @@
 -- The copies are those of the first texts.
-use Rattle.std.proofs.Common.{◌≡◌, ℕ, ◌-◌, ◌≤◌, length}
+use Rattle.std.proofs.Common.{◌≡◌, ◌-◌, ◌≤◌, length}
 use Rattle.std.specs.Prelude.{take}
 use Rattle.mv_calls.proofs.texts.Texts.from_slice.Given as goal
 
