@@ -1,1 +1,2 @@
 pub mod ConsoleLaws
+pub mod FilesLaws

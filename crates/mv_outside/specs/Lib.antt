@@ -4,5 +4,6 @@ pub mod Console
 pub mod Counts
 pub mod Files
 pub mod MemConsole
+pub mod MemFiles
 pub mod Told
 pub mod VecSink
