@@ -1,9 +1,11 @@
 -- What stands at each path after a change of one file.
-use Rattle.std.specs.Prelude.{◌≡◌, ◌≢◌, ◌↔◌, ◌+◌, ◌<◌, ◌≤◌, ℕ, zero, suc, Bool, true, false, List, [], ◌∷◌, ◌++◌, length, take, Option, Some, None, IsTrue, Result, Err, refl}
+use Rattle.std.specs.Prelude.{◌≡◌, ◌≢◌, ◌↔◌, ◌+◌, ◌<◌, ◌≤◌, ℕ, zero, suc, Bool, true, false, ◌&&◌, is_none, drop, List, [], ◌∷◌, ◌++◌, length, take, Option, Some, None, IsTrue, Result, Err, refl}
 use Rattle.std.proofs.Common.{arith, ap, sym, subst, ◌∙◌, cond, get_or, set}
 use Rattle.std.specs.Option.{option_map, option_or}
 use Rattle.std.specs.List.{find, position_or_len, slice_get}
 use Rattle.std.specs.Str.{bytes_eq}
+use Rattle.std.proofs.Math.Seq.{drop-cons}
+use Rattle.std.proofs.lemmas.List.{get_or_default}
 use Rattle.std.proofs.lemmas.List.Folds.{find-set, find_past, find-append, find_at}
 use Rattle.std.proofs.lemmas.List.Sums.{passes_at_first}
 use Rattle.std.proofs.lemmas.Option.{slice_get_past, slice_get-get_or}
@@ -12,7 +14,7 @@ use Rattle.mv_calls.specs.Or.{IsFault}
 use Rattle.mv_calls.specs.declared.fault.Or.{Or}
 use Rattle.mv_calls.specs.declared.fault.Or.TheVariants.{OutOfMemory}
 use Rattle.mv_outside.specs.Files.{FileMap}
-use Rattle.mv_outside.specs.MemFiles.{file_at, is_at, NoPathTwice, HoldsGiven, ChangesFile}
+use Rattle.mv_outside.specs.MemFiles.{file_at, is_at, do_paths_differ, HoldsGiven, ChangesFile}
 use Rattle.mv_outside.specs.declared.fault.Failed.{Failed}
 use Rattle.mv_outside.specs.declared.files.Found.{Found}
 use Rattle.mv_outside.specs.declared.files.Found.TheVariants as found
@@ -103,16 +105,30 @@ later_here : (first : FileAt) (rest : List FileAt) (path bytes : List ℕ) → f
     file_at rest path ≡ Some bytes → file_at (first ∷ rest) path ≡ Some bytes
 later_here first rest path bytes none some =
     let away : is_at path first ≡ false = false_unless (is_at path first) (λ same.
-        let here : first.path ≡ path = (bytes_eq-Decides first.path path).0 same in
-        let both : None ≡ Some bytes = sym none ∙ (ap (file_at rest) here ∙ some) in cc) in
+    let here : first.path ≡ path = (bytes_eq-Decides first.path path).0 same in
+    let both : None ≡ Some bytes = sym none ∙ (ap (file_at rest) here ∙ some) in cc) in
     ap (λ b. content_of (cond b (Some first) (find (is_at path) rest))) away ∙ some
 
+first_of_two : (a b : Bool) → a && b ≡ true → a ≡ true
+first_of_two true b h = refl
+first_of_two false b h = absurd (let bad : false ≡ true = h in cc)
+
+second_of_two : (a b : Bool) → a && b ≡ true → b ≡ true
+second_of_two true b h = h
+second_of_two false b h = absurd (let bad : false ≡ true = h in cc)
+
+nothing : (told : Option (List ℕ)) → is_none told ≡ true → told ≡ None
+nothing None h = refl
+nothing (Some bytes) h = absurd (let bad : false ≡ true = h in cc)
+
 -- where no path stands twice, each file stands at its path
-pub holds_given : (files : List FileAt) → NoPathTwice files → HoldsGiven files (file_at files)
-holds_given [] distinct k d h = absurd (omega arith)
-holds_given (first ∷ rest) distinct zero d h = first_here first rest
-holds_given (first ∷ rest) distinct (suc k) d h =
-    later_here first rest (get_or rest k d).path (get_or rest k d).bytes distinct.0 (holds_given rest distinct.1 k d (omega arith))
+pub holds_given : (files : List FileAt) → IsTrue (do_paths_differ files) → HoldsGiven files (file_at files)
+holds_given [] differ k d h = absurd (omega arith)
+holds_given (first ∷ rest) differ zero d h = first_here first rest
+holds_given (first ∷ rest) differ (suc k) d h =
+    later_here first rest (get_or rest k d).path (get_or rest k d).bytes
+    (nothing (file_at rest first.path) (first_of_two (is_none (file_at rest first.path)) (do_paths_differ rest) differ))
+    (holds_given rest (second_of_two (is_none (file_at rest first.path)) (do_paths_differ rest) differ) k d (omega arith))
 
 -- what the told map says of a path
 pub told_missing : (files told : FileMap) (path : List ℕ) → Some files ≡ Some told → files path ≡ None → told path ≡ None
@@ -131,3 +147,32 @@ pub no_fault : (r : Result Unit (Or Failed)) (fails : Bool) → fails ≡ false 
 no_fault r fails fine memory =
     let P : Result Unit (Or Failed) → Type 0 = λ v. IsFault v ↔ IsTrue fails in
     subst P (sym memory) ((λ fault. absurd fault), (λ named. absurd (let bad : false ≡ true = sym fine ∙ named in cc)))
+
+-- the i-th file and those after it
+front : (files : List FileAt) (i : ℕ) (file : FileAt) → i < length files → file ≡ get_or files i file →
+    drop i files ≡ file ∷ drop (i + 1) files
+front files i file h read =
+    let next : suc i ≡ i + 1 = omega arith in
+    let After : ℕ → Type 0 = λ k. drop i files ≡ get_or files i file ∷ drop k files in
+    let First : FileAt → Type 0 = λ f. drop i files ≡ f ∷ drop (i + 1) files in
+    subst First (sym read) (subst After next (drop-cons files i file h))
+
+-- the answer for the files from the i-th on is that for those after it, where it has no twin
+pub differ_more : (files : List FileAt) (i : ℕ) (file : FileAt) → i < length files → file ≡ get_or files i file →
+    length (drop (i + 1) files) ≤ position_or_len (is_at file.path) (drop (i + 1) files) →
+    do_paths_differ (drop i files) ≡ do_paths_differ (drop (i + 1) files)
+differ_more files i file h read past =
+    ap do_paths_differ (front files i file h read)
+    ∙ ap (λ told. is_none told && do_paths_differ (drop (i + 1) files)) (absent (drop (i + 1) files) file.path past)
+
+-- and false where it has one
+pub differ_not : (files : List FileAt) (i : ℕ) (file : FileAt) → i < length files → file ≡ get_or files i file →
+    position_or_len (is_at file.path) (drop (i + 1) files) < length (drop (i + 1) files) →
+    do_paths_differ (drop i files) ≡ false
+differ_not files i file h read within =
+    let rest : List FileAt = drop (i + 1) files in
+    let place : ℕ = position_or_len (is_at file.path) rest in
+    let twin : FileAt = get_or rest place file in
+    ap do_paths_differ (front files i file h read)
+    ∙ ap (λ told. is_none told && do_paths_differ (drop (i + 1) files))
+    (present rest file.path place twin refl within (get_or_default rest place file twin within))

@@ -1,5 +1,5 @@
 -- Files in memory: what stands at each path, and what each call leaves.
-use Rattle.std.specs.Prelude.{◌≡◌, ◌≢◌, ℕ, Bool, if◌then◌else◌, List, [], ◌∷◌, Option, Some, None, ⊤}
+use Rattle.std.specs.Prelude.{◌≡◌, ◌≢◌, ℕ, Bool, true, ◌&&◌, if◌then◌else◌, List, [], ◌∷◌, Option, Some, None, is_none}
 use Rattle.std.specs.Option.{option_map}
 use Rattle.std.specs.List.{find, All}
 use Rattle.std.specs.Str.{bytes_eq}
@@ -28,9 +28,9 @@ abbrev pub file_at : List FileAt → FileMap
 file_at files path = option_map (λ (file : FileAt). file.bytes) (find (is_at path) files)
 
 -- no two of the files stand at one path
-abbrev pub NoPathTwice : List FileAt → Type 0
-NoPathTwice [] = ⊤
-NoPathTwice (first ∷ rest) = (file_at rest first.path ≡ None) × NoPathTwice rest
+abbrev pub do_paths_differ : List FileAt → Bool
+do_paths_differ [] = true
+do_paths_differ (first ∷ rest) = is_none (file_at rest first.path) && do_paths_differ rest
 
 -- the next read, and the next write, fails: its number is in the list
 abbrev pub read_fails : FilesState → Bool

@@ -14,6 +14,8 @@ mod mem_console;
 mod mem_files;
 mod run;
 mod sink;
+#[cfg(test)]
+mod tests;
 mod vec_sink;
 
 pub use console::{Console, Line};
@@ -23,7 +25,7 @@ pub use free_gate::FreeGate;
 pub use gate::Gate;
 pub use kernel::Kernel;
 pub use mem_console::MemConsole;
-pub use mem_files::{FileAt, MemFiles};
+pub use mem_files::{FileAt, MemFiles, paths_differ};
 pub use run::Run;
 pub use sink::Sink;
 pub use vec_sink::VecSink;

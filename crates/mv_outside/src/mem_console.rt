@@ -38,18 +38,18 @@ impl Model for MemConsole {
     ghost Value = { ConsoleSeen };
 
     ghost view = { λ c. record {
-        state = record {
-            coming = map handed (into_iter_items c.waiting);
-            said = c.spoken.items;
-            nexts = c.nexts;
-            says = c.says;
-            fail_next = c.fail_next.items;
-            fail_say = c.fail_say.items;
-            failed = c.failed;
-            closed = c.closed;
-            faults = c.faults
-        };
-        room = vec_capacity c.spoken - vec_len c.spoken
+      state = record {
+        coming = map handed (into_iter_items c.waiting);
+        said = c.spoken.items;
+        nexts = c.nexts;
+        says = c.says;
+        fail_next = c.fail_next.items;
+        fail_say = c.fail_say.items;
+        failed = c.failed;
+        closed = c.closed;
+        faults = c.faults;
+      };
+      room = vec_capacity c.spoken - vec_len c.spoken;
     } };
 
     ghost invariant = { λ c. c.closed ≡ true → into_iter_items c.waiting ≡ [] };
@@ -66,15 +66,15 @@ impl MemConsole {
         fail_say: Vec<u64>,
     ) -> MemConsole
         ensures { result.state ≡ record {
-            coming = map handed lines.items;
-            said = [];
-            nexts = 0;
-            says = 0;
-            fail_next = fail_next.items;
-            fail_say = fail_say.items;
-            failed = false;
-            closed = false;
-            faults = 0
+          coming = map handed lines.items;
+          said = [];
+          nexts = 0;
+          says = 0;
+          fail_next = fail_next.items;
+          fail_say = fail_say.items;
+          failed = false;
+          closed = false;
+          faults = 0;
         } }
     {
         MemConsole {

@@ -5,7 +5,7 @@ ghost use Rattle.std.specs.List.{position_or_len};
 ghost use Rattle.mv_calls.specs.Or.{IsFault, WantsMemory};
 ghost use Rattle.mv_outside.specs.Causes.{Rose};
 ghost use Rattle.mv_outside.specs.Files.{Finds, IfBytes, HasFile, ChangesOnly};
-ghost use Rattle.mv_outside.specs.MemFiles.{FilesState, file_at, is_at, NoPathTwice, HoldsGiven, ChangesFile, emptied, read_fails, write_fails, after_read, after_write};
+ghost use Rattle.mv_outside.specs.MemFiles.{FilesState, file_at, is_at, do_paths_differ, HoldsGiven, ChangesFile, emptied, read_fails, write_fails, after_read, after_write};
 
 use crate::fault::Failed;
 use crate::files::{Files, Found};
@@ -53,11 +53,26 @@ fn place_of(files: &[FileAt], path: &[u8]) -> usize
     next
 }
 
+/// Whether no two of the files have one path.
+pub fn paths_differ(files: &[FileAt]) -> bool
+    ensures { result ≡ do_paths_differ files.now }
+{
+    let mut next = 0;
+    while next < files.len() {
+        let (_, rest) = files.split_at(next + 1);
+        if place_of(rest, files[next].path.slice()) < rest.len() {
+            return false;
+        }
+        next += 1;
+    }
+    true
+}
+
 impl MemFiles {
-    /// These files, no two of one path. The p-th `read` and the p-th `write`, from 0, fail where p is
+    /// These files, no two of one path ([`paths_differ`] tells). The p-th `read` and the p-th `write`, from 0, fail where p is
     /// in their list.
     pub fn new(files: Vec<FileAt>, fail_read: Vec<u64>, fail_write: Vec<u64>) -> MemFiles
-        requires { NoPathTwice files.items }
+        requires { IsTrue (do_paths_differ files.items) }
         ensures state { result ≡ record { files = files.items; reads = 0; writes = 0; fail_read = fail_read.items; fail_write = fail_write.items; faults = 0 } }
         ensures given { HoldsGiven files.items (file_at result.files) }
     {

@@ -11,5 +11,5 @@ returns-then-place-files-clause-found c = λ told same.
 pub returns-in-Ok-clause-found : goal.returns-in-Ok-clause-found
 returns-in-Ok-clause-found c = λ told same.
     told_bytes (file_at c.args.files.now) told c.args.path.now c.index-files-place.result.bytes c.in-Ok.bytes c.args.cap same
-      (present c.args.files.now c.args.path.now c.place_of-place.result c.index-files-place.result (search rules) (search rules) (search rules))
-      (search rules)
+    (present c.args.files.now c.args.path.now c.place_of-place.result c.index-files-place.result (search rules) (search rules) (search rules))
+    (search rules)
