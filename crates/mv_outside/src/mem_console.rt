@@ -9,17 +9,17 @@ use crate::console::{Console, Line};
 use crate::fault::Failed;
 use mv_calls::{Bytes, OutOfMemory};
 use std::alloc::Global;
+use std::collections::VecDeque;
 use std::marker::Model;
-use std::vec::IntoIter;
 
 /// How many bytes of a line are handed on.
 const LINE_LIMIT: usize = 8_192;
 
 /// Hands on the lines that it was made with, and keeps what is said. Contracts see all that it holds,
 /// and its memory as the room for what is to be said.
-#[derive(Drop)]
+#[derive(Debug, Drop)]
 pub struct MemConsole {
-    waiting: IntoIter<Option<Bytes>>,
+    waiting: VecDeque<Option<Bytes>>,
     spoken: Vec<u8>,
     nexts: u64,
     says: u64,
@@ -32,14 +32,13 @@ pub struct MemConsole {
 
 impl Model for MemConsole {
     ghost use Rattle.std.specs.Prelude.{◌≡◌, ◌-◌, [], map, true, vec_len, vec_capacity};
-    ghost use Rattle.std.specs.Vec.Iter.{into_iter_items};
     ghost use Rattle.mv_outside.specs.MemConsole.{ConsoleSeen, handed};
 
     ghost Value = { ConsoleSeen };
 
     ghost view = { λ c. record {
       state = record {
-        coming = map handed (into_iter_items c.waiting);
+        coming = map handed c.waiting.items;
         said = c.spoken.items;
         nexts = c.nexts;
         says = c.says;
@@ -52,7 +51,7 @@ impl Model for MemConsole {
       room = vec_capacity c.spoken - vec_len c.spoken;
     } };
 
-    ghost invariant = { λ c. c.closed ≡ true → into_iter_items c.waiting ≡ [] };
+    ghost invariant = { λ c. c.closed ≡ true → c.waiting.items ≡ [] };
 }
 
 impl MemConsole {
@@ -78,7 +77,7 @@ impl MemConsole {
         } }
     {
         MemConsole {
-            waiting: lines.into_iter(),
+            waiting: VecDeque::from_vec(lines),
             spoken: Vec::new(alloc),
             nexts: 0,
             says: 0,
@@ -143,7 +142,7 @@ impl Console for MemConsole {
             self.faults = self.faults.saturating_add(1);
             return Line::Failed;
         }
-        match self.waiting.next() {
+        match self.waiting.pop_front() {
             Some(Some(line)) => Line::Line(first_part(line)),
             Some(None) => Line::Idle,
             None => {

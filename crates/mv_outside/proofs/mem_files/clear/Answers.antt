@@ -1,5 +1,5 @@
 -- One file is replaced by an empty one of its path.
-use Rattle.std.proofs.Common.{rules, arith, sym, ap, ◌∙◌, refl, Some}
+use Rattle.std.proofs.Common.{rules, sym, ap, ◌∙◌, refl, Some}
 use Rattle.mv_outside.specs.MemFiles.{emptied}
 use Rattle.mv_outside.proofs.FilesLaws.{absent, present, set_here, set_others}
 use Rattle.mv_outside.proofs.mem_files.clear.Goals as goal

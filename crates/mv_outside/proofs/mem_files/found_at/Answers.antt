@@ -1,5 +1,5 @@
 -- What is read is what stands at the path.
-use Rattle.std.proofs.Common.{rules, arith, sym, ap, ◌∙◌, Some}
+use Rattle.std.proofs.Common.{rules}
 use Rattle.mv_outside.specs.MemFiles.{file_at}
 use Rattle.mv_outside.proofs.FilesLaws.{absent, present, told_missing, told_bytes}
 use Rattle.mv_outside.proofs.mem_files.found_at.Goals as goal

@@ -1,7 +1,7 @@
 -- One file is replaced by one of its path, or a new one comes at the end.
-use Rattle.std.proofs.Common.{rules, arith, sym, ap, ◌∙◌, refl, Some}
+use Rattle.std.proofs.Common.{rules, ap, ◌∙◌, refl, Some}
 use Rattle.mv_outside.proofs.FilesLaws.{set_here, set_others, push_here, push_others}
-use Rattle.mv_outside.specs.MemFiles.{file_at, ChangesFile}
+use Rattle.mv_outside.specs.MemFiles.{file_at}
 use Rattle.mv_outside.proofs.mem_files.put.Goals as goal
 
 pub returns-then-place-len-clause-here : goal.returns-then-place-len-clause-here

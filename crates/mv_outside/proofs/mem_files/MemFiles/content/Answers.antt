@@ -1,5 +1,5 @@
 -- The first file of the path is what stands there.
-use Rattle.std.proofs.Common.{rules, arith, sym, ap, ◌∙◌, Some}
+use Rattle.std.proofs.Common.{rules, sym, ap, ◌∙◌, Some}
 use Rattle.mv_outside.proofs.FilesLaws.{absent, present}
 use Rattle.mv_outside.proofs.mem_files.MemFiles.content.Goals as goal
 

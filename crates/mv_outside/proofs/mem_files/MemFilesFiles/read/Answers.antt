@@ -1,5 +1,5 @@
 -- Past the list of failing calls a read doesn't fail.
-use Rattle.std.proofs.Common.{rules, arith}
+use Rattle.std.proofs.Common.{arith}
 use Rattle.std.proofs.lemmas.Grind.{common_steps}
 use Rattle.mv_outside.specs.MemFiles.{read_fails}
 use Rattle.mv_outside.proofs.FilesLaws.{not_failed}
