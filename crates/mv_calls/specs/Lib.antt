@@ -1,2 +1,4 @@
+pub mod Fits
+pub mod Items
 pub mod Or
 pub mod Suits

@@ -1,7 +1,9 @@
 //! Lists of byte lists, such as the arguments of a guest.
-ghost use Rattle.std.specs.Prelude.{◌≡◌};
+ghost use Rattle.std.specs.Prelude.{◌≡◌, IfOk};
 
 use crate::bytes::Bytes;
+use crate::fault::OutOfMemory;
+use std::alloc::Global;
 use std::marker::Model;
 
 /// A list of byte lists.
@@ -39,5 +41,23 @@ impl Texts {
         ensures { result.now ≡ self.now }
     {
         self.items.as_slice()
+    }
+
+    /// A copy of these byte lists. The one error is want of memory.
+    pub fn from_slice(alloc: Global, items: &[Bytes]) -> Result<Texts, OutOfMemory>
+        ensures { IfOk result (λ copy. copy ≡ items.now) }
+    {
+        let mut copies: Vec<Bytes> = Vec::with_capacity(alloc, items.len())?;
+        while copies.len() < items.len() {
+            copies.push(items[copies.len()].copy(alloc)?)?;
+        }
+        Ok(Texts { items: copies })
+    }
+
+    /// An equal list in a place of its own. The one error is want of memory.
+    pub fn copy(&self, alloc: Global) -> Result<Texts, OutOfMemory>
+        ensures { IfOk result (λ copy. copy ≡ self.now) }
+    {
+        Texts::from_slice(alloc, self.slice())
     }
 }

@@ -1,4 +1,9 @@
+pub mod Began
 pub mod Causes
 pub mod Console
+pub mod Counts
 pub mod Files
+pub mod MemConsole
+pub mod MemFiles
 pub mod Told
+pub mod VecSink

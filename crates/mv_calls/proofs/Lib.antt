@@ -1,0 +1,3 @@
+pub mod FitsLaws
+pub mod ItemsLaws
+pub mod RoomLaws

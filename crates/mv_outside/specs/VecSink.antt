@@ -1,0 +1,26 @@
+-- A sink in memory: what stands in it, and what a call leaves.
+use Rattle.std.specs.Prelude.{ℕ, ◌/◌, Bool, List, ◌++◌, take, length, Result, Ok, Err}
+use Rattle.mv_calls.specs.declared.fault.Or.{Or}
+use Rattle.mv_calls.specs.declared.fault.Or.TheVariants.{Fault, OutOfMemory}
+use Rattle.mv_outside.specs.Counts.{one_more, is_named}
+use Rattle.mv_outside.specs.declared.fault.Failed.{Failed}
+
+-- what a sink in memory holds
+pub record SinkState : Type 0 where
+  -- what was written
+  pub written : List ℕ
+  -- how many calls there were, and the numbers of those that are to fail
+  pub calls : ℕ
+  pub fail : List ℕ
+  -- how often a call has failed
+  pub faults : ℕ
+
+-- the next call fails: its number is in the list
+abbrev pub write_fails : SinkState → Bool
+write_fails s = is_named s.fail s.calls
+
+-- what a call leaves: the piece, its first half where it fails, nothing of it where memory was wanted
+abbrev pub after_write : SinkState → List ℕ → Result Unit (Or Failed) → SinkState
+after_write s piece (Ok done) = record s { calls = one_more s.calls; written = s.written ++ piece }
+after_write s piece (Err (Fault failed)) = record s { calls = one_more s.calls; written = s.written ++ take (length piece / 2) piece; faults = one_more s.faults }
+after_write s piece (Err OutOfMemory) = record s { calls = one_more s.calls }
