@@ -2,12 +2,60 @@
 #![tactic(auto)]
 
 mod command;
+mod disk_files;
 mod ending;
 mod entries;
 mod lines;
 mod log;
+mod mem_kernel;
 mod module;
+mod no_console;
+mod program;
 mod run;
+mod streams;
 mod words;
+mod writer_sink;
 
-fn main(_rt: HostRuntime) {}
+use disk_files::DiskFiles;
+use mv_outside::FreeGate;
+use no_console::NoConsole;
+use program::program;
+use std::alloc::Global;
+use std::process::ExitCode;
+use std::rt::Env;
+use std::{env, io};
+use streams::Streams;
+use writer_sink::WriterSink;
+
+/// The status for want of memory.
+const NO_MEMORY: u8 = 9;
+
+fn main(rt: HostRuntime) -> ExitCode {
+    let alloc = rt.alloc();
+    let Ok(words) = words_of(&rt, alloc) else {
+        return ExitCode::from(NO_MEMORY);
+    };
+    let mut out = WriterSink::new(rt.stdout());
+    let outcome = program(
+        &rt,
+        alloc,
+        words.as_slice(),
+        Streams::new(rt.stdout(), rt.stderr()),
+        NoConsole,
+        DiskFiles::new(&rt),
+        &FreeGate::new(),
+        &mut out,
+    );
+    ExitCode::from(outcome.status)
+}
+
+/// The words behind the program's name. Where one isn't UTF-8 there are none, so they are refused.
+fn words_of<R: Env + AllocGlobal>(rt: &R, alloc: Global) -> io::Result<Vec<String>> {
+    match env::args(rt) {
+        Ok(args) => Ok(args.skip(1).collect(alloc)?),
+        Err(error) => match error.kind() {
+            io::ErrorKind::InvalidData => Ok(Vec::new(alloc)),
+            _ => Err(error),
+        },
+    }
+}

@@ -80,11 +80,11 @@ go config = event_of (met_from config)
 -- the errno that a reply pushes, and the memory behind its outputs
 abbrev pub errno_of : Reply → ℕ
 errno_of (Errno errno) = errno
-errno_of (Count count) = 0
+errno_of reply = 0
 
 abbrev pub outputs : Reply → ℕ → List ℕ → List ℕ
-outputs (Errno errno) result_at memory = memory
 outputs (Count count) result_at memory = written (little_bytes 4 count) result_at memory
+outputs reply result_at memory = memory
 
 abbrev pub answered_at : Config → Met → Reply → Config
 answered_at config (Waits waiting) reply = record {

@@ -113,6 +113,7 @@ fn write_outputs(memory: &mut Vec<u8>, place: u32, reply: &Reply) -> u16
             write_u32(memory.as_mut_slice(), place as usize, *count);
             0
         }
+        _ => 0,
     }
 }
 

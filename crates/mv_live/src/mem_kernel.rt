@@ -1,0 +1,108 @@
+//! A kernel in memory, which tells what it did. The tests run over it.
+ghost use Rattle.std.specs.Prelude.{◌≡◌, ◌≤◌, ◌+◌, ◌↔◌, [], ◌∷◌, Some, IsTrue, IsErr, IfOk, OnErr, vec_capacity, vec_len};
+ghost use Rattle.mv_calls.specs.Suits.{suits_of, reply_len, room_of};
+ghost use Rattle.mv_outside.specs.Told.{told_more};
+ghost use Rattle.mv_outside.specs.Causes.{Rose};
+ghost use Rattle.mv_live.specs.Ready.{IsReady};
+
+use mv_calls::{Call, Item, OutOfMemory, Reply, Room, copy_call, copy_reply};
+use mv_outside::{Failed, Kernel};
+use std::alloc::Global;
+
+/// Errno of WASI preview 1: no such descriptor, or no call for it.
+const ERRNO_BADF: u16 = 8;
+
+/// The copy of a call that is to be done, and the place for the copy of its reply.
+#[derive(Drop)]
+pub struct Saved {
+    pub call: Call,
+    pub room: Room,
+}
+
+/// Takes all that is written to descriptors 1 and 2; every other call answers errno 8. Its `p`-th
+/// `perform`, from 0, fails where `p` is in a list.
+#[derive(Drop)]
+pub struct MemKernel {
+    done: Vec<Item>,
+    saved: Option<Saved>,
+    performs: u64,
+    fail: Vec<u64>,
+    faults: u64,
+}
+
+impl MemKernel {
+    /// A kernel that has done nothing.
+    pub fn new(alloc: Global, fail: Vec<u64>) -> MemKernel
+        ensures done { result.done.items ≡ [] }
+        ensures faults { result.faults ≡ 0 }
+    {
+        MemKernel {
+            done: Vec::new(alloc),
+            saved: None,
+            performs: 0,
+            fail,
+            faults: 0,
+        }
+    }
+
+    /// The calls done with their replies, oldest first.
+    pub fn done(&self) -> &[Item]
+        ensures { result.now ≡ self.now.done.items }
+    {
+        self.done.as_slice()
+    }
+}
+
+impl Kernel for MemKernel {
+    ghost done = { λ k. Some k.done.items };
+
+    ghost faults = { λ k. k.faults };
+
+    ghost ready_for = { λ k call. IsReady k.saved call (vec_len k.done) (vec_capacity k.done) };
+
+    fn ready(&mut self, alloc: Global, call: &Call) -> Result<(), OutOfMemory> {
+        let copy = copy_call(alloc, call)?;
+        let room = Room::make(alloc, call)?;
+        match self.done.reserve(1) {
+            Ok(()) => {}
+            Err(_) => return Err(OutOfMemory),
+        }
+        self.saved = Some(Saved { call: copy, room });
+        Ok(())
+    }
+
+    fn perform(&mut self, call: &Call, _room: Room) -> Result<Reply, Failed> {
+        let number = self.performs;
+        self.performs = number.saturating_add(1);
+        if self.fail.contains(&number) {
+            self.faults = self.faults.saturating_add(1);
+            return Err(Failed);
+        }
+        let reply = reply_to(call);
+        match self.saved.take() {
+            Some(saved) => {
+                let copy = copy_reply(&reply, saved.room);
+                self.done.push_reserved(Item {
+                    call: saved.call,
+                    reply: copy,
+                });
+                Ok(reply)
+            }
+            None => unreachable!(),
+        }
+    }
+}
+
+/// What a call is answered.
+fn reply_to(call: &Call) -> Reply
+    ensures suits { IsTrue (suits_of call.now result) }
+    ensures short { reply_len result ≡ 0 }
+{
+    match call {
+        Call::Write { fd: 1 | 2, bytes } => match u32::try_from(bytes.slice().len()) {
+            Ok(count) => Reply::Count(count),
+            Err(_) => Reply::Errno(ERRNO_BADF),
+        },
+        _ => Reply::Errno(ERRNO_BADF),
+    }
+}
