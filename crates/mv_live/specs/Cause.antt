@@ -12,19 +12,21 @@ use Rattle.mv_live.specs.declared.log.How.TheVariants.{KernelFault}
 use Rattle.mv_live.specs.declared.log.Mark.TheVariants.{End}
 use Rattle.mv_live.specs.declared.log.Entry.TheVariants as entry
 use Rattle.mv_live.specs.declared.log.Log.{Log}
+use Rattle.mv_live.specs.Ending.{Shows}
 use Rattle.mv_live.specs.Legal.{running, AreLegal}
 use Rattle.mv_live.specs.Loaded.{IsMissing, IsRefused, StandsAt}
 use Rattle.mv_live.specs.Words.{IsRun}
 
--- what a command was given, and what came of it
+-- What a command was given, and what came of it. Pairs are before and after.
 pub record Facts : Type 0 where
   pub words : List (List ℕ)
   -- what stands at each path, where it is told
   pub files : Option FileMap
-  pub file_faults : ℕ
-  pub file_faults_now : ℕ
-  pub kernel_faults : ℕ
-  pub kernel_faults_now : ℕ
+  pub file_faults : ℕ × ℕ
+  pub kernel_faults : ℕ × ℕ
+  -- what was printed, where it is told
+  pub printed : Option (List ℕ) × Option (List ℕ)
+  pub sink_faults : ℕ × ℕ
   pub log : Log
 
 -- the log of a command that started no guest
@@ -41,15 +43,21 @@ pub record RanFrom (facts : Facts) (path : List ℕ) (how : How) : Type 0 where
   pub form_is : HasFirstForm facts.log.start.«module» form
   pub legal : AreLegal (running (begun form)) facts.log.entries.list
   pub ends : (before : _) × (facts.log.entries.list ≡ before ++ entry.Mark (End how) ∷ [])
-  pub fault : how ≡ KernelFault → Rose facts.kernel_faults facts.kernel_faults_now
+  pub fault : how ≡ KernelFault → Rose facts.kernel_faults.0 facts.kernel_faults.1
 
 abbrev pub HasCause : Facts → Ending → List ℕ → Type 0
 HasCause facts BadWords path = ((old : List ℕ) → IsRun facts.words old → ⊥) × IsEmptyLog facts.log
 HasCause facts NoFile path =
-    IsRun facts.words path × (IsMissing facts.files path ⊎ Rose facts.file_faults facts.file_faults_now) × IsEmptyLog facts.log
+    IsRun facts.words path × (IsMissing facts.files path ⊎ Rose facts.file_faults.0 facts.file_faults.1) × IsEmptyLog facts.log
 HasCause facts NotYet path = IsRun facts.words path × IsRefused facts.files path × IsEmptyLog facts.log
 HasCause facts NoMemory path = IsRun facts.words path × IsEmptyLog facts.log
 HasCause facts (Ran how) path = IsRun facts.words path × RanFrom facts path how
+
+-- The status of a command: an ending has its cause, and shows. Where the sink failed the status is 7, and a part of
+-- the line was printed; for want of memory it is 9, and nothing was.
+abbrev pub HasStatus : Facts → ℕ → Type 0
+HasStatus facts status =
+    (ending : Ending) × (path : List ℕ) × HasCause facts ending path × Shows ending path facts.printed facts.sink_faults status
 
 -- the log is legal by the form of its module, or there is no guest and no entry
 abbrev pub IsLegal : Log → Type 0

@@ -36,10 +36,10 @@ line_of NotYet path = codes "mv: " ++ (path ++ (codes ": NotYet" ++ line_feed))
 line_of NoMemory path = end_line Memory
 line_of (Ran how) path = end_line how
 
--- An ending shows by its status and its whole line. Where the sink failed the status is 7, and a part of the line was
--- printed; for want of memory it is 9, and nothing was.
-abbrev pub Shows : Ending → List ℕ → Option (List ℕ) → Option (List ℕ) → ℕ → ℕ → ℕ → Type 0
-Shows ending path written now faults faults_now status =
-    ((status ≡ status_of ending) × (now ≡ told_more written (line_of ending path)))
-    ⊎ (((status ≡ 7) × Rose faults faults_now × AddsPart written (line_of ending path) now)
-    ⊎ ((status ≡ 9) × (now ≡ written)))
+-- An ending shows by its status and its whole line; or by 7 where the sink failed, with a part of the line; or by 9 for
+-- want of memory, with nothing.
+abbrev pub Shows : Ending → List ℕ → Option (List ℕ) × Option (List ℕ) → ℕ × ℕ → ℕ → Type 0
+Shows ending path printed faults status =
+    ((status ≡ status_of ending) × (printed.1 ≡ told_more printed.0 (line_of ending path)))
+    ⊎ (((status ≡ 7) × Rose faults.0 faults.1 × AddsPart printed.0 (line_of ending path) printed.1)
+    ⊎ ((status ≡ 9) × (printed.1 ≡ printed.0)))

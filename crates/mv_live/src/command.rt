@@ -4,10 +4,8 @@ ghost use Rattle.mv_syntax.specs.FirstForm.{IsFirstForm};
 ghost use Rattle.mv_machine.specs.Config.{begun};
 ghost use Rattle.mv_outside.specs.Told.{told_more};
 ghost use Rattle.mv_live.specs.Legal.{outside_of};
-ghost use Rattle.mv_live.specs.Cause.{HasCause, IsEmptyLog, IsLegal};
+ghost use Rattle.mv_live.specs.Cause.{HasCause, HasStatus, IsEmptyLog, IsLegal};
 ghost use Rattle.mv_live.specs.Words.{IsRun};
-ghost use Rattle.mv_live.specs.Ending.{Shows};
-ghost use Rattle.mv_live.specs.declared.ending.Ending.{Ending};
 
 use crate::ending::Ending;
 use crate::lines::print;
@@ -54,7 +52,15 @@ pub fn run_command<K: Kernel, C: Console, F: Files, S: Sink>(
 ) -> Outcome<K, C, F>
     ensures done { K.done result.kernel ≡ told_more (K.done kernel) (outside_of result.log.entries.list) }
     ensures legal { IsLegal result.log }
-    ensures status { (ending : Ending) × (path : _) × HasCause (record { words = map string_bytes words.now; files = F.content files; file_faults = F.faults files; file_faults_now = F.faults result.files; kernel_faults = K.faults kernel; kernel_faults_now = K.faults result.kernel; log = result.log }) ending path × Shows ending path (S.written out.old) (S.written out.new) (S.faults out.old) (S.faults out.new) result.status }
+    ensures status { HasStatus (record {
+      words = map string_bytes words.now;
+      files = F.content files;
+      file_faults = (F.faults files, F.faults result.files);
+      kernel_faults = (K.faults kernel, K.faults result.kernel);
+      printed = (S.written out.old, S.written out.new);
+      sink_faults = (S.faults out.old, S.faults out.new);
+      log = result.log;
+    }) result.status }
     ensures console { result.console ≡ console }
     ensures files { F.content result.files ≡ F.content files }
 {
@@ -83,7 +89,15 @@ pub fn run_command<K: Kernel, C: Console, F: Files, S: Sink>(
 fn came_of<K: Kernel, F: Files>(alloc: Global, path: &str, kernel: K, files: &mut F) -> Came<K>
     ensures done { K.done result.kernel ≡ told_more (K.done kernel) (outside_of result.log.entries.list) }
     ensures legal { IsLegal result.log }
-    ensures cause { (words : _) → IsRun words path.now → HasCause (record { words = words; files = F.content files.old; file_faults = F.faults files.old; file_faults_now = F.faults files.new; kernel_faults = K.faults kernel; kernel_faults_now = K.faults result.kernel; log = result.log }) result.ending path.now }
+    ensures cause { (words : _) (printed : _) (sink_faults : _) → IsRun words path.now → HasCause (record {
+      words = words;
+      files = F.content files.old;
+      file_faults = (F.faults files.old, F.faults files.new);
+      kernel_faults = (K.faults kernel, K.faults result.kernel);
+      printed = printed;
+      sink_faults = sink_faults;
+      log = result.log;
+    }) result.ending path.now }
     ensures files { F.content files.new ≡ F.content files.old }
 {
     match module_at(alloc, path, files) {

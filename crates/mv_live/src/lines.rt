@@ -31,7 +31,7 @@ fn line(alloc: Global, ending: Ending, path: &str) -> Result<String, OutOfMemory
 
 /// Prints the line of an ending, and gives the status.
 pub fn print<S: Sink>(alloc: Global, ending: Ending, path: &str, out: &mut S) -> u8
-    ensures { Shows ending path.now (S.written out.old) (S.written out.new) (S.faults out.old) (S.faults out.new) result }
+    ensures { Shows ending path.now (S.written out.old, S.written out.new) (S.faults out.old, S.faults out.new) result }
 {
     let Ok(text) = line(alloc, ending, path) else {
         return NO_MEMORY;

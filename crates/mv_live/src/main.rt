@@ -13,6 +13,8 @@ mod no_console;
 mod program;
 mod run;
 mod streams;
+#[cfg(test)]
+mod tests;
 mod words;
 mod writer_sink;
 

@@ -2,9 +2,7 @@
 ghost use Rattle.std.specs.Prelude.{◌≡◌, map, string_bytes};
 ghost use Rattle.mv_outside.specs.Told.{told_more};
 ghost use Rattle.mv_live.specs.Legal.{outside_of};
-ghost use Rattle.mv_live.specs.Cause.{HasCause, IsLegal};
-ghost use Rattle.mv_live.specs.Ending.{Shows};
-ghost use Rattle.mv_live.specs.declared.ending.Ending.{Ending};
+ghost use Rattle.mv_live.specs.Cause.{HasStatus, IsLegal};
 
 use crate::command::{Outcome, run_command};
 use mv_outside::{Console, Files, Gate, Kernel, Sink};
@@ -38,7 +36,15 @@ pub fn program<
 ) -> Outcome<K, C, F>
     ensures done { K.done result.kernel ≡ told_more (K.done kernel) (outside_of result.log.entries.list) }
     ensures legal { IsLegal result.log }
-    ensures status { (ending : Ending) × (path : _) × HasCause (record { words = map string_bytes words.now; files = F.content files; file_faults = F.faults files; file_faults_now = F.faults result.files; kernel_faults = K.faults kernel; kernel_faults_now = K.faults result.kernel; log = result.log }) ending path × Shows ending path (S.written out.old) (S.written out.new) (S.faults out.old) (S.faults out.new) result.status }
+    ensures status { HasStatus (record {
+      words = map string_bytes words.now;
+      files = F.content files;
+      file_faults = (F.faults files, F.faults result.files);
+      kernel_faults = (K.faults kernel, K.faults result.kernel);
+      printed = (S.written out.old, S.written out.new);
+      sink_faults = (S.faults out.old, S.faults out.new);
+      log = result.log;
+    }) result.status }
     ensures console { result.console ≡ console }
     ensures files { F.content result.files ≡ F.content files }
 {

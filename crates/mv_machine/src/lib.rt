@@ -7,6 +7,8 @@
 mod event;
 mod fd_write;
 mod machine;
+#[cfg(test)]
+mod tests;
 
 pub use event::{Event, Made};
 pub use fd_write::decode_write;

@@ -4,6 +4,8 @@
 mod first_form;
 mod instr;
 mod ops;
+#[cfg(test)]
+mod tests;
 
 pub use first_form::{FirstForm, NotYet, read_first_form};
 pub use instr::Instr;
