@@ -3,7 +3,8 @@ use Rattle.std.specs.Prelude.{◌≡◌, ℕ, ◌+◌, ◌<◌, ◌≤◌, Bool,
 use Rattle.std.proofs.Common.{arith}
 use Rattle.std.proofs.lemmas.Bool.Decides.{nat_tests}
 use Rattle.std.proofs.lemmas.List.{length-drop}
-use Rattle.mv_calls.specs.Suits.{suits_of, room_of, reply_len, are_rising, are_below}
+use Rattle.mv_calls.specs.Places.{Holds, places_of, places_in}
+use Rattle.mv_calls.specs.Suits.{suits_of, are_rising, are_below}
 use Rattle.mv_calls.specs.declared.happenings.Happened.{Happened}
 use Rattle.mv_calls.specs.declared.calls.Call.{Call}
 use Rattle.mv_calls.specs.declared.calls.Call.TheVariants.{Random, Read, Poll}
@@ -36,18 +37,24 @@ pub rising_length : (count : ℕ) (happenings : List Happened) → are_rising ha
 rising_length count [] rising below = omega arith
 rising_length count (first ∷ rest) rising below = let fits : first.sub + length (first ∷ rest) ≤ count = rising_fits count first rest rising below in omega arith
 
--- a reply that suits has no more bytes, or events, than a reply to the call has at most
-pub suits_room : (call : Call) (reply : Reply) → IsTrue (suits_of call reply) → reply_len reply ≤ room_of call
-suits_room call (Errno errno) h = omega arith
-suits_room (Random len) (Bytes bytes) h = grind (arith, nat_tests)
-suits_room (Read fd cap) (Bytes bytes) h = grind (arith, nat_tests)
-suits_room (Poll subs) (Ready happenings) h =
-    rising_length (length subs) happenings (first_of_two (are_rising happenings) (are_below (length subs) happenings) h) (second_of_two (are_rising happenings) (are_below (length subs) happenings) h)
-suits_room call Done h = omega arith
-suits_room call (Count count) h = omega arith
-suits_room call (Fd fd) h = omega arith
-suits_room call (Time time) h = omega arith
-suits_room call (Stat filetype flags rights heirs) h = omega arith
+-- a place for neither is large enough for none, whatever the call
+none_held : (call : Call) → Holds (places_of call) (record { bytes = 0; events = 0 })
+none_held call = record { enough_bytes = omega arith; enough_events = omega arith }
+
+-- what a reply to the call takes at most is large enough for a reply that suits
+pub suits_room : (call : Call) (reply : Reply) → IsTrue (suits_of call reply) → Holds (places_of call) (places_in reply)
+suits_room call (Errno errno) h = none_held call
+suits_room (Random len) (Bytes bytes) h = record { enough_bytes = grind (arith, nat_tests); enough_events = omega arith }
+suits_room (Read fd cap) (Bytes bytes) h = record { enough_bytes = grind (arith, nat_tests); enough_events = omega arith }
+suits_room (Poll subs) (Ready happenings) h = record {
+  enough_bytes = omega arith;
+  enough_events = rising_length (length subs) happenings (first_of_two (are_rising happenings) (are_below (length subs) happenings) h) (second_of_two (are_rising happenings) (are_below (length subs) happenings) h);
+}
+suits_room call Done h = none_held call
+suits_room call (Count count) h = none_held call
+suits_room call (Fd fd) h = none_held call
+suits_room call (Time time) h = none_held call
+suits_room call (Stat filetype flags rights heirs) h = none_held call
 suits_room call (Bytes bytes) h = absurd (let bad : false ≡ true = h in cc)
 suits_room call (Ready happenings) h = absurd (let bad : false ≡ true = h in cc)
 

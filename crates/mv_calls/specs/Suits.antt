@@ -32,12 +32,6 @@ suits_of (Accept fd flags) (Fd new) = true
 suits_of (Shutdown fd how) Done = true
 suits_of call reply = false
 
--- how many bytes, or events, the reply has
-abbrev pub reply_len : Reply → ℕ
-reply_len (Bytes bytes) = length bytes
-reply_len (Ready happenings) = length happenings
-reply_len reply = 0
-
 -- how many bytes, or events, a reply to the call has at most
 abbrev pub room_of : Call → ℕ
 room_of (Random len) = len

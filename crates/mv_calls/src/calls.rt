@@ -1,6 +1,7 @@
 //! Calls of a guest to the outside, and their replies.
-ghost use Rattle.std.specs.Prelude.{◌≡◌, ◌≤◌, IsTrue};
-ghost use Rattle.mv_calls.specs.Suits.{suits_of, room_of, reply_len, are_rising, are_below};
+ghost use Rattle.std.specs.Prelude.{◌≡◌, IsTrue};
+ghost use Rattle.mv_calls.specs.Places.{Holds, places_of, places_in};
+ghost use Rattle.mv_calls.specs.Suits.{suits_of, room_of, are_rising, are_below};
 
 use crate::bytes::Bytes;
 use crate::happenings::{Happened, Happenings};
@@ -84,7 +85,7 @@ impl Model for Item {
 #[tactic(auto, using(crate::proofs::RoomLaws::suits_room))]
 pub fn suits(call: &Call, reply: &Reply) -> bool
     ensures suits { result ≡ suits_of call.now reply.now }
-    ensures room { IsTrue result → reply_len reply.now ≤ room_of call.now }
+    ensures room { IsTrue result → Holds (places_of call.now) (places_in reply.now) }
 {
     match (call, reply) {
         (_, Reply::Errno(errno)) => *errno > 0,

@@ -1,6 +1,6 @@
 //! Equal calls and replies in places of their own.
-ghost use Rattle.std.specs.Prelude.{◌≡◌, ◌≤◌, IfOk};
-ghost use Rattle.mv_calls.specs.Suits.{reply_len};
+ghost use Rattle.std.specs.Prelude.{◌≡◌, IfOk};
+ghost use Rattle.mv_calls.specs.Places.{Holds, places_in};
 
 use crate::bytes::Bytes;
 use crate::calls::{Call, Reply};
@@ -38,7 +38,7 @@ pub fn copy_call(alloc: Global, call: &Call) -> Result<Call, OutOfMemory>
 /// An equal reply in the place `into`, which is large enough: it is, if it was made for a call that
 /// the reply suits ([`suits`](crate::suits) says so). This takes no memory.
 pub fn copy_reply(reply: &Reply, into: Room) -> Reply
-    requires { reply_len reply.now ≤ into }
+    requires { Holds into (places_in reply.now) }
     ensures { result ≡ reply.now }
 {
     match reply {

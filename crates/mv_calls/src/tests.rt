@@ -138,3 +138,16 @@ fn copies_are_equal(rt: HostRuntime) -> Result<(), Fail> {
     assert_eq!(rt; found.slice().len(), 1);
     Ok(())
 }
+
+#[test]
+fn rooms_are_no_larger_than_needed(rt: HostRuntime) -> Result<(), Fail> {
+    let alloc = rt.alloc();
+    let read = Call::Read { fd: 4, cap: 5 };
+    let poll = two_subs(alloc)?;
+    assert_eq!(rt; Room::make(alloc, &read)?.bytes().capacity(), 5);
+    assert_eq!(rt; Room::make(alloc, &read)?.events().capacity(), 0);
+    assert_eq!(rt; Room::make(alloc, &poll)?.bytes().capacity(), 0);
+    assert_eq!(rt; Room::make(alloc, &poll)?.events().capacity(), 2);
+    assert_eq!(rt; Room::make(alloc, &Call::Yield)?.bytes().capacity(), 0);
+    Ok(())
+}

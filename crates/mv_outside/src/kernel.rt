@@ -2,7 +2,8 @@
 ghost use Rattle.std.specs.Prelude.{◌≡◌, ℕ, ◌≤◌, [], ◌∷◌, List, Option, IfOk, OnOk, OnErr, IsTrue};
 ghost use Rattle.mv_calls.specs.declared.calls.Call.{Call};
 ghost use Rattle.mv_calls.specs.declared.calls.Item.{Item};
-ghost use Rattle.mv_calls.specs.Suits.{suits_of, room_of};
+ghost use Rattle.mv_calls.specs.Places.{Holds, places_of};
+ghost use Rattle.mv_calls.specs.Suits.{suits_of};
 ghost use Rattle.mv_outside.specs.Told.{told_more};
 ghost use Rattle.mv_outside.specs.Causes.{Rose};
 
@@ -30,7 +31,7 @@ pub trait Kernel: Drop {
     /// Does the call, and takes no memory but `room`.
     fn perform(&mut self, call: &Call, room: Room) -> Result<Reply, Failed>
         requires ready { ready_for self.old call.now }
-        requires room { room_of call.now ≤ room }
+        requires room { Holds room (places_of call.now) }
         ensures suits { IfOk result (λ reply. IsTrue (suits_of call.now reply)) }
         ensures did { IfOk result (λ reply. done self.new ≡ told_more (done self.old) ((call.now, reply) ∷ [])) }
         ensures did_not { OnErr result (done self.new ≡ done self.old) }
