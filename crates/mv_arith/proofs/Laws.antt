@@ -13,7 +13,7 @@ use Rattle.mv_syntax.specs.declared.ops.Binary.{Binary}
 use Rattle.mv_syntax.specs.declared.ops.Binary.TheVariants.{Add, Sub, Mul, DivS, DivU, RemS, RemU, And, Or, Xor, Shl, ShrS, ShrU, Rotl, Rotr}
 use Rattle.mv_arith.specs.declared.ArithTrap.TheVariants.{DivideByZero, Overflow}
 use Rattle.mv_arith.specs.Integers.{signed, wrapped, rotated, binary_result, unary_result, leading_zero_count, trailing_zero_count, one_count}
-use Rattle.mv_arith.proofs.Bits.{rotated_is, and-bitwise, or-bitwise, xor-bitwise, leading_are, trailing_are, ones_are}
+use Rattle.mv_arith.proofs.Bits.{rotated_is, shifted_left-is, shifted_right-is, signed_shift-lt, and-bitwise, or-bitwise, xor-bitwise, leading_are, trailing_are, ones_are}
 
 pub wrapped-lt : (n : ℕ) (z : ℤ) → wrapped n z < 2 ^ n
 wrapped-lt n (pos a) = mod_below a (2 ^ n) (pow_pos n)
@@ -48,9 +48,9 @@ binary_result-lt n RemU a b some h k = one_fault (b == 0) DivideByZero (a % b) (
 binary_result-lt n And a b some h k = subst (λ v. v < 2 ^ n) (and-bitwise n a b h k) (and_lt n a b h k)
 binary_result-lt n Or a b some h k = subst (λ v. v < 2 ^ n) (or-bitwise n a b h k) (or_lt n a b h k)
 binary_result-lt n Xor a b some h k = subst (λ v. v < 2 ^ n) (xor-bitwise n a b h k) (xor_lt n a b h k)
-binary_result-lt n Shl a b some h k = mod_below _ (2 ^ n) (pow_pos n)
-binary_result-lt n ShrS a b some h k = wrapped-lt n _
-binary_result-lt n ShrU a b some h k = lt_of_le_of_lt (div-le_self a _) h
+binary_result-lt n Shl a b some h k = subst (λ v. v < 2 ^ n) (shifted_left-is n (b % n) a (mod_below b n some)) (mod_below _ (2 ^ n) (pow_pos n))
+binary_result-lt n ShrS a b some h k = signed_shift-lt n (b % n) a (mod_below b n some) h
+binary_result-lt n ShrU a b some h k = subst (λ v. v < 2 ^ n) (shifted_right-is n (b % n) a (mod_below b n some) h) (lt_of_le_of_lt (div-le_self a _) h)
 binary_result-lt n Rotl a b some h k = let below : b % n < n = mod_below b n some in rotated-lt n a (b % n) (omega arith)
 binary_result-lt n Rotr a b some h k = rotated-lt n a (n - b % n) (omega arith)
 

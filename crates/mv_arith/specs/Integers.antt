@@ -1,9 +1,9 @@
 -- The integer operations of WebAssembly Core 1.0, section 4.3.2.
 --
 -- An integer of n bits is a number below 2 ^ n, where n is 32 or 64, and is read as a signed number where the operation says so.
-use Rattle.std.specs.Prelude.{ℕ, zero, suc, ◌+◌, ◌-◌, ◌*◌, ◌/◌, ◌%◌, ◌^◌, ◌≡◌, ◌==◌, nat_lt, nat_le, if◌then◌else◌, Bool, not, List, [], ◌∷◌, ◌++◌, sum, take, drop, fold, ℤ, pos, ◌-ℤ◌, min, max, map, int_div, int_rem, unsigned_abs, int_lt, Result, Ok, Err}
+use Rattle.std.specs.Prelude.{ℕ, zero, suc, ◌+◌, ◌-◌, ◌*◌, ◌/◌, ◌%◌, ◌^◌, ◌≡◌, ◌==◌, nat_lt, nat_le, if◌then◌else◌, Bool, not, List, [], ◌∷◌, ◌++◌, sum, take, drop, replicate, slice_index, fold, ℤ, pos, ◌-ℤ◌, min, max, map, int_div, int_rem, unsigned_abs, int_lt, Result, Ok, Err}
 use Rattle.std.specs.List.{prefix_len, suffix_len, zip}
-use Rattle.std.specs.Int.{int_shr, int_rem_euclid}
+use Rattle.std.specs.Int.{int_rem_euclid}
 use Rattle.std.specs.Int.RustNames.{int_le}
 use Rattle.mv_syntax.specs.declared.ops.UnOp.{UnOp}
 use Rattle.mv_syntax.specs.declared.ops.UnOp.TheVariants.{Clz32, Ctz32, Popcnt32, Clz64, Ctz64, Popcnt64, Wrap, ExtendS, ExtendU}
@@ -83,6 +83,18 @@ remainder a b = if b == 0 then Err DivideByZero else Ok (a % b)
 unfoldable pub rotated : ℕ → ℕ → ℕ → ℕ
 rotated n a k = value_of_bits (drop k (bits_of n a) ++ take k (bits_of n a))
 
+-- the bits after the first k, and k zeros at the end
+unfoldable pub shifted_left : ℕ → ℕ → ℕ → ℕ
+shifted_left n a k = value_of_bits (drop k (bits_of n a) ++ replicate k 0)
+
+-- k times this bit, and then all bits but the last k
+unfoldable pub shifted_right : ℕ → ℕ → ℕ → ℕ → ℕ
+shifted_right n bit a k = value_of_bits (replicate k bit ++ take (n - k) (bits_of n a))
+
+-- the first bit
+abbrev pub sign_bit : ℕ → ℕ → ℕ
+sign_bit n a = slice_index (bits_of n a) 0
+
 -- for integers of n bits; a count of places is taken modulo n
 unfoldable pub binary_result : ℕ → Binary → ℕ → ℕ → Result ℕ ArithTrap
 binary_result n Add a b = Ok ((a + b) % 2 ^ n)
@@ -95,9 +107,9 @@ binary_result n RemU a b = remainder a b
 binary_result n And a b = Ok (bitwise min n a b)
 binary_result n Or a b = Ok (bitwise max n a b)
 binary_result n Xor a b = Ok (bitwise (λ x y. (x + y) % 2) n a b)
-binary_result n Shl a b = Ok ((a * 2 ^ (b % n)) % 2 ^ n)
-binary_result n ShrS a b = Ok (wrapped n (int_shr (signed n a) (b % n)))
-binary_result n ShrU a b = Ok (a / 2 ^ (b % n))
+binary_result n Shl a b = Ok (shifted_left n a (b % n))
+binary_result n ShrS a b = Ok (shifted_right n (sign_bit n a) a (b % n))
+binary_result n ShrU a b = Ok (shifted_right n 0 a (b % n))
 binary_result n Rotl a b = Ok (rotated n a (b % n))
 binary_result n Rotr a b = Ok (rotated n a (n - b % n))
 
