@@ -2,7 +2,7 @@
 use Rattle.std.proofs.Common.{◌≡◌, ℕ, ◌+◌, ◌-◌, ◌/◌, ◌%◌, ◌^◌, ◌<◌, ◌≤◌, subst, arith, Bool, true, false, lit<}
 use Rattle.std.specs.Prelude.{ℤ, pos, unsigned_abs, Ok, Err, IfOk, if◌then◌else◌, ◌==◌, int_div, int_rem}
 use lib.IntN.{negsuc}
-use Rattle.std.specs.Int.RustNames.{int_le}
+use Rattle.std.specs.Ordering.{int_eq}
 use Rattle.std.proofs.lemmas.Nat.{pow_pos, mod_below, mul-add-lt, pow-add, leading_le, trailing_le, ones-le, or_lt, xor_lt}
 use Rattle.std.proofs.Math.Nat.{div-le_self, mod-le, lt_of_le_of_lt}
 use lib.Bits.{and_lt}
@@ -41,9 +41,9 @@ binary_result-lt n Add a b some h k = mod_below _ (2 ^ n) (pow_pos n)
 binary_result-lt n Sub a b some h k = mod_below _ (2 ^ n) (pow_pos n)
 binary_result-lt n Mul a b some h k = mod_below _ (2 ^ n) (pow_pos n)
 binary_result-lt n DivS a b some h k =
-    two_faults (unsigned_abs (signed n b) == 0) (int_le (pos (2 ^ (n - 1))) (int_div (signed n a) (signed n b))) DivideByZero Overflow (wrapped n (int_div (signed n a) (signed n b))) (2 ^ n) (wrapped-lt n (int_div (signed n a) (signed n b)))
+    two_faults (int_eq (signed n b) (pos 0)) (int_eq (int_div (signed n a) (signed n b)) (pos (2 ^ (n - 1)))) DivideByZero Overflow (wrapped n (int_div (signed n a) (signed n b))) (2 ^ n) (wrapped-lt n (int_div (signed n a) (signed n b)))
 binary_result-lt n DivU a b some h k = one_fault (b == 0) DivideByZero (a / b) (2 ^ n) (lt_of_le_of_lt (div-le_self a b) h)
-binary_result-lt n RemS a b some h k = one_fault (unsigned_abs (signed n b) == 0) DivideByZero (wrapped n (int_rem (signed n a) (signed n b))) (2 ^ n) (wrapped-lt n (int_rem (signed n a) (signed n b)))
+binary_result-lt n RemS a b some h k = one_fault (int_eq (signed n b) (pos 0)) DivideByZero (wrapped n (int_rem (signed n a) (signed n b))) (2 ^ n) (wrapped-lt n (int_rem (signed n a) (signed n b)))
 binary_result-lt n RemU a b some h k = one_fault (b == 0) DivideByZero (a % b) (2 ^ n) (lt_of_le_of_lt (mod-le a b) h)
 binary_result-lt n And a b some h k = subst (λ v. v < 2 ^ n) (and-bitwise n a b h k) (and_lt n a b h k)
 binary_result-lt n Or a b some h k = subst (λ v. v < 2 ^ n) (or-bitwise n a b h k) (or_lt n a b h k)
