@@ -1,6 +1,6 @@
 -- Laws of the operations, for the proofs of the crates above.
 use Rattle.std.proofs.Common.{◌≡◌, ℕ, ◌+◌, ◌-◌, ◌/◌, ◌%◌, ◌^◌, ◌<◌, ◌≤◌, subst, arith, Bool, true, false, lit<}
-use Rattle.std.specs.Prelude.{ℤ, pos, unsigned_abs, Ok, Err, IfOk, if◌then◌else◌, ◌==◌, int_div, int_rem}
+use Rattle.std.specs.Prelude.{ℤ, pos, Ok, Err, IfOk, if◌then◌else◌, ◌==◌, int_div, int_rem}
 use lib.IntN.{negsuc}
 use Rattle.std.specs.Ordering.{int_eq}
 use Rattle.std.proofs.lemmas.Nat.{pow_pos, mod_below, mul-add-lt, pow-add, leading_le, trailing_le, ones-le, or_lt, xor_lt}

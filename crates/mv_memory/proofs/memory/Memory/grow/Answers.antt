@@ -1,4 +1,4 @@
-use Rattle.std.proofs.Common.{◌≤◌, ◌+◌, length, arith, rules}
+use Rattle.std.proofs.Common.{◌≤◌, ◌+◌, length, rules}
 use Rattle.mv_memory.specs.Bytes.{most_pages}
 use Rattle.mv_memory.proofs.PagesLemmas.{sound-append}
 use Rattle.mv_memory.proofs.memory.Memory.grow.Goals as goal
