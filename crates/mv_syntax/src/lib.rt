@@ -9,4 +9,4 @@ mod tests;
 
 pub use first_form::{FirstForm, NotYet, read_first_form};
 pub use instr::Instr;
-pub use ops::ValType;
+pub use ops::{BinOp, Binary, Compare, RelOp, TestOp, UnOp, ValType};
