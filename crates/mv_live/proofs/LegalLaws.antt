@@ -1,10 +1,10 @@
 -- A legal log, one entry longer.
-use Rattle.std.proofs.Common.{◌≡◌, ℕ, Bool, true, false, List, [], ◌∷◌, ◌++◌, ◌≤◌, Option, refl, sym, ap, ◌∙◌, subst, append-nil, arith}
+use Rattle.std.proofs.Common.{◌≡◌, ℕ, List, [], ◌∷◌, ◌++◌, ◌≤◌, Option, refl, sym, ap, ◌∙◌, subst, append-nil, arith}
 use Rattle.mv_calls.specs.declared.calls.Call.{Call}
 use Rattle.mv_calls.specs.declared.calls.Item.{Item}
 use Rattle.mv_machine.specs.declared.event.Event.TheVariants.{Calls}
 use Rattle.mv_machine.specs.Config.{Config}
-use Rattle.mv_machine.specs.Step.{go, after}
+use Rattle.mv_machine.specs.Step.{go}
 use Rattle.mv_outside.specs.Causes.{Rose}
 use Rattle.mv_outside.specs.Told.{told_more, told_more-append, told_more-none}
 use Rattle.mv_live.specs.declared.log.How.{How}

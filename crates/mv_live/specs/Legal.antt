@@ -1,5 +1,5 @@
 -- The legal logs: each entry is what the leader asks for, where it stands by the entries before.
-use Rattle.std.specs.Prelude.{◌≡◌, ℕ, Bool, true, false, List, [], ◌∷◌}
+use Rattle.std.specs.Prelude.{◌≡◌, Bool, true, false, List, [], ◌∷◌}
 use Rattle.mv_calls.specs.declared.calls.Call.{Call}
 use Rattle.mv_calls.specs.declared.calls.Item.{Item}
 use Rattle.mv_machine.specs.declared.event.Event.TheVariants.{Calls, Ends}

@@ -1,5 +1,5 @@
 -- The words of the command line (docs/GUIDE.md, "Words").
-use Rattle.std.specs.Prelude.{◌≡◌, ℕ, Bool, true, false, not, ◌==◌, IsTrue, List, [], ◌∷◌, codes}
+use Rattle.std.specs.Prelude.{◌≡◌, ℕ, Bool, false, not, ◌==◌, IsTrue, List, [], ◌∷◌, codes}
 
 -- a word that isn't empty and doesn't begin with a hyphen
 abbrev pub is_plain : List ℕ → Bool

@@ -1,6 +1,7 @@
 //! A kernel in memory, which tells what it did. The tests run over it.
 ghost use Rattle.std.specs.Prelude.{◌≡◌, ◌≤◌, ◌+◌, ◌↔◌, [], ◌∷◌, Some, IsTrue, IsErr, IfOk, OnErr, vec_capacity, vec_len};
-ghost use Rattle.mv_calls.specs.Suits.{suits_of, reply_len, room_of};
+ghost use Rattle.mv_calls.specs.Places.{Places, Holds, places_in};
+ghost use Rattle.mv_calls.specs.Suits.{suits_of};
 ghost use Rattle.mv_outside.specs.Told.{told_more};
 ghost use Rattle.mv_outside.specs.Causes.{Rose};
 ghost use Rattle.mv_live.specs.Ready.{IsReady};
@@ -96,7 +97,7 @@ impl Kernel for MemKernel {
 /// What a call is answered.
 fn reply_to(call: &Call) -> Reply
     ensures suits { IsTrue (suits_of call.now result) }
-    ensures short { reply_len result ≡ 0 }
+    ensures short { (room : Places) → Holds room (places_in result) }
 {
     match call {
         Call::Write { fd: 1 | 2, bytes } => match u32::try_from(bytes.slice().len()) {

@@ -1,11 +1,10 @@
 -- What the crates above use of a step.
-use Rattle.std.proofs.Common.{◌≡◌, ℕ, zero, suc, ◌+◌, ◌<◌, ◌≤◌, List, [], ◌∷◌, length, refl, ap, arith}
+use Rattle.std.proofs.Common.{◌≡◌, ℕ, suc, ◌<◌, List, [], ◌∷◌, length, refl, ap, arith}
 use Rattle.mv_calls.specs.declared.calls.Call.{Call}
 use Rattle.mv_calls.specs.declared.calls.Reply.{Reply}
 use Rattle.mv_syntax.specs.declared.instr.Instr.{Instr}
 use Rattle.mv_syntax.specs.declared.instr.Instr.TheVariants as instr
-use Rattle.mv_machine.specs.declared.event.Event.{Event}
-use Rattle.mv_machine.specs.declared.event.Event.TheVariants.{Calls, Ends}
+use Rattle.mv_machine.specs.declared.event.Event.TheVariants.{Calls}
 use Rattle.mv_machine.specs.Config.{Config}
 use Rattle.mv_machine.specs.Step.{Called, Asks, Answers, Exits, Waiting, Met, Waits, Stops, called, operands_after, met_call, met, met_from, event_of, answered_at, go, after}
 

@@ -1,11 +1,9 @@
 -- The two places where the machine stands.
-use Rattle.std.proofs.Common.{◌≡◌, ℕ, ◌+◌, ◌*◌, ◌≤◌, Bool, true, false, ◌&&◌, cond, leb, ltb, List, [], ◌∷◌, length, Option, Some, None, is_some, refl, sym, ap, ◌∙◌, arith}
+use Rattle.std.proofs.Common.{◌≡◌, ℕ, ◌+◌, ◌*◌, ◌≤◌, Bool, true, false, ◌&&◌, cond, ltb, List, [], ◌∷◌, length, Option, Some, None, is_some, refl, sym, ap, ◌∙◌}
 use Rattle.std.proofs.lemmas.Bool.{leb-true}
 use Rattle.mv_calls.specs.declared.calls.Call.{Call}
 use Rattle.mv_calls.specs.declared.calls.Reply.{Reply}
-use Rattle.mv_syntax.specs.declared.instr.Instr.{Instr}
 use Rattle.mv_syntax.specs.FirstForm.{write_body, exit_body}
-use Rattle.mv_machine.specs.declared.event.Event.{Event}
 use Rattle.mv_machine.specs.declared.event.Event.TheVariants.{Calls, Ends}
 use Rattle.mv_machine.specs.declared.event.Made.{Made}
 use Rattle.mv_machine.specs.declared.event.Made.TheVariants.{Outside, Local}

@@ -39,7 +39,12 @@ fn fd_write_is_checked_before_it_is_a_call(rt: HostRuntime) -> Result<(), Fail> 
     let both = decode_write(alloc, memory, 1, 0, 2, 24)?;
     assert_eq!(rt; written(&both).ok_or("a call")?, b"abcde".as_slice());
     // No iovec, an empty write.
-    assert_eq!(rt; written(&decode_write(alloc, memory, 1, 65_536, 0, 24)?).ok_or("a call")?.len(), 0);
+    assert_eq!(rt;
+        written(&decode_write(alloc, memory, 1, 65_536, 0, 24)?)
+            .ok_or("a call")?
+            .len(),
+        0
+    );
     // (iovs, count, result, errno): too many, then the result, the array and a piece out of bounds.
     let rows = [
         (0, 1_025, 65_533, 28),

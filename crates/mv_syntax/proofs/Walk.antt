@@ -1,8 +1,8 @@
 -- The bytes of a module of the first form, as the reader walks over them.
-use Rattle.std.proofs.Common.{◌≡◌, ℕ, zero, suc, ◌+◌, ◌-◌, ◌/◌, ◌%◌, ◌^◌, ◌<◌, ◌≤◌, Bool, true, false, cond, ltb, List, [], ◌∷◌, ◌++◌, length, length-append, refl, append_assoc, arith, ap, ◌∙◌, lit≤}
+use Rattle.std.proofs.Common.{◌≡◌, ℕ, zero, suc, ◌+◌, ◌-◌, ◌/◌, ◌%◌, ◌^◌, ◌<◌, ◌≤◌, Bool, true, false, cond, ltb, List, [], ◌∷◌, ◌++◌, length, length-append, append_assoc, arith, lit≤}
 use Rattle.mv_syntax.specs.declared.first_form.FirstForm.{FirstForm}
 use Rattle.mv_syntax.specs.Numbers.{unsigned_groups, signed_groups, half, u32_bytes, s32_bytes}
-use Rattle.mv_syntax.specs.FirstForm.{heading, with_length, const_bytes, body_bytes, segments_bytes, first_form_bytes, IsFirstForm}
+use Rattle.mv_syntax.specs.FirstForm.{heading, with_length, body_bytes, segments_bytes, first_form_bytes, IsFirstForm}
 
 -- ---- lengths
 

@@ -1,5 +1,4 @@
-use Rattle.std.proofs.Common.{◌≡◌, ◌≤◌, ◌++◌, ℕ, ap, sym, ◌∙◌, arith, length, take, drop}
-use Rattle.mv_machine.specs.FdWrite.{transfer_limit}
+use Rattle.std.proofs.Common.{◌≡◌, ℕ, ap, arith}
 use Rattle.mv_machine.proofs.Pieces.{within_parts, joined_end, joined_more, joined_whole}
 use Rattle.mv_machine.proofs.fd_write.gathered.Goals as goal
 

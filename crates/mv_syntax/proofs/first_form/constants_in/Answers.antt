@@ -1,6 +1,6 @@
-use Rattle.std.proofs.Common.{[], ◌∷◌, ◌++◌, ◌<◌, ◌+◌, ◌^◌, ◌≤◌, length, refl, ◌∙◌, arith}
-use Rattle.mv_syntax.specs.FirstForm.{heading, page_size}
-use Rattle.mv_syntax.proofs.Walk.{laid, sizes, at_data, at_offset, at_segments, at_code, at_result, at_count, at_iovs, at_fd, at_body, at_bodies}
+use Rattle.std.proofs.Common.{[], ◌∷◌, ◌++◌, ◌<◌, ◌^◌, refl, ◌∙◌, arith}
+use Rattle.mv_syntax.specs.FirstForm.{heading}
+use Rattle.mv_syntax.proofs.Walk.{laid, sizes}
 use Rattle.mv_syntax.proofs.first_form.constants_in.Goals as goal
 
 pub returns : goal.returns

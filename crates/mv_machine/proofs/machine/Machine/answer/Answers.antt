@@ -1,6 +1,6 @@
 use Rattle.std.proofs.Common.{◌≤◌, ◌+◌, ◌∙◌, ap, sym, arith, length}
 use Rattle.mv_machine.specs.Config.{Config}
-use Rattle.mv_machine.specs.Step.{go, after, outputs}
+use Rattle.mv_machine.specs.Step.{go, after}
 use Rattle.mv_machine.proofs.Steps.{call_within, after_ahead, behind_is}
 use Rattle.mv_machine.proofs.machine.Machine.answer.Goals as goal
 

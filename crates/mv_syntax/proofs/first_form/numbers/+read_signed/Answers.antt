@@ -1,4 +1,4 @@
-use Rattle.std.proofs.Common.{◌≡◌, ◌+◌, ◌*◌, ◌-◌, ◌/◌, ◌%◌, ◌^◌, ◌<◌, ◌≤◌, ap, ◌∙◌, arith}
+use Rattle.std.proofs.Common.{◌+◌, ◌*◌, ◌-◌, ◌%◌, ap, ◌∙◌, arith}
 use Rattle.mv_syntax.proofs.Groups.{pow-128, pow-128-some, pow-128-most, seven_more, signed_zero, signed_none, signed_positive, signed_negative, signed_narrow, signed_more}
 use Rattle.mv_syntax.proofs.first_form.numbers.+read_signed.Goals as goal
 

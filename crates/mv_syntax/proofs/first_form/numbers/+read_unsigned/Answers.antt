@@ -1,4 +1,4 @@
-use Rattle.std.proofs.Common.{arith, ◌<◌, ◌∙◌, ap, ◌+◌, ◌*◌, ◌%◌, ◌-◌}
+use Rattle.std.proofs.Common.{arith, ◌∙◌, ap, ◌+◌, ◌*◌, ◌%◌, ◌-◌}
 use Rattle.mv_syntax.proofs.Groups.{pow-128, pow-128-some, pow-128-most, unsigned_zero, unsigned_none, unsigned_last, unsigned_more}
 use Rattle.mv_syntax.proofs.first_form.numbers.+read_unsigned.Goals as goal
 
