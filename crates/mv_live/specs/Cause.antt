@@ -1,5 +1,5 @@
 -- The causes of each ending: what holds where it comes (docs/GUIDE.md, "Statuses").
-use Rattle.std.specs.Prelude.{◌≡◌, ℕ, List, [], ◌∷◌, ◌++◌, Option, ◌⊎◌}
+use Rattle.std.specs.Prelude.{◌≡◌, ℕ, List, [], ◌∷◌, ◌++◌, Option, Some, None, ◌⊎◌}
 use Rattle.mv_syntax.specs.declared.first_form.FirstForm.{FirstForm}
 use Rattle.mv_syntax.specs.FirstForm.{HasFirstForm}
 use Rattle.mv_machine.specs.Config.{begun}
@@ -12,7 +12,7 @@ use Rattle.mv_live.specs.declared.log.How.TheVariants.{KernelFault}
 use Rattle.mv_live.specs.declared.log.Mark.TheVariants.{End}
 use Rattle.mv_live.specs.declared.log.Entry.TheVariants as entry
 use Rattle.mv_live.specs.declared.log.Log.{Log}
-use Rattle.mv_live.specs.Ending.{Shows}
+use Rattle.mv_live.specs.Ending.{Shows, run_status}
 use Rattle.mv_live.specs.Legal.{running, AreLegal}
 use Rattle.mv_live.specs.Loaded.{IsMissing, IsRefused, StandsAt}
 use Rattle.mv_live.specs.Words.{IsRun}
@@ -58,6 +58,26 @@ HasCause facts (Ran how) path = IsRun facts.words path × RanFrom facts path how
 abbrev pub HasStatus : Facts → ℕ → Type 0
 HasStatus facts status =
     (ending : Ending) × (path : List ℕ) × HasCause facts ending path × Shows ending path facts.printed facts.sink_faults status
+
+-- the sink failed, or memory was wanted
+abbrev pub Otherwise : Facts → ℕ → Type 0
+Otherwise facts status = ((status ≡ 7) × Rose facts.sink_faults.0 facts.sink_faults.1) ⊎ (status ≡ 9)
+
+-- a call on the files failed
+abbrev pub FileFault : Facts → ℕ → Type 0
+FileFault facts status = (status ≡ 3) × Rose facts.file_faults.0 facts.file_faults.1
+
+-- The other way round: which status comes, by what the words and the told files are.
+pub record IsExact (facts : Facts) (status : ℕ) : Type 0 where
+  pub bad_words : ((old : List ℕ) → IsRun facts.words old → ⊥) → (status ≡ 2) ⊎ Otherwise facts status
+  pub missing : (old : List ℕ) (files : FileMap) → IsRun facts.words old → facts.files ≡ Some files → files old ≡ None →
+      (status ≡ 3) ⊎ Otherwise facts status
+  pub refused : (old : List ℕ) (files : FileMap) (bytes : List ℕ) → IsRun facts.words old → facts.files ≡ Some files →
+      files old ≡ Some bytes → ((form : FirstForm) → HasFirstForm bytes form → ⊥) →
+      (status ≡ 4) ⊎ (FileFault facts status ⊎ Otherwise facts status)
+  pub ran : (old : List ℕ) (files : FileMap) (bytes : List ℕ) (form : FirstForm) → IsRun facts.words old →
+      facts.files ≡ Some files → files old ≡ Some bytes → HasFirstForm bytes form →
+      ((how : How) × RanFrom facts old how × (status ≡ run_status how)) ⊎ (FileFault facts status ⊎ Otherwise facts status)
 
 -- the log is legal by the form of its module, or there is no guest and no entry
 abbrev pub IsLegal : Log → Type 0

@@ -4,7 +4,7 @@ ghost use Rattle.mv_syntax.specs.FirstForm.{IsFirstForm};
 ghost use Rattle.mv_machine.specs.Config.{begun};
 ghost use Rattle.mv_outside.specs.Told.{told_more};
 ghost use Rattle.mv_live.specs.Legal.{outside_of};
-ghost use Rattle.mv_live.specs.Cause.{HasCause, HasStatus, IsEmptyLog, IsLegal};
+ghost use Rattle.mv_live.specs.Cause.{HasCause, HasStatus, IsExact, IsEmptyLog, IsLegal};
 ghost use Rattle.mv_live.specs.Words.{IsRun};
 
 use crate::ending::Ending;
@@ -41,8 +41,44 @@ struct Came<K> {
 
 /// `run OLD`: runs the guest of the module OLD to its end, and prints how it ended.
 ///
-/// It returns on any words and any bytes. The status has its cause by the table of statuses.
+/// It returns on any words and any bytes. The status has its cause by the table of statuses, and where
+/// neither the outside fails nor memory is wanted, it is told by the words and the files.
 pub fn run_command<K: Kernel, C: Console, F: Files, S: Sink>(
+    alloc: Global,
+    words: &[String],
+    kernel: K,
+    console: C,
+    files: F,
+    out: &mut S,
+) -> Outcome<K, C, F>
+    ensures done { K.done result.kernel ≡ told_more (K.done kernel) (outside_of result.log.entries.list) }
+    ensures legal { IsLegal result.log }
+    ensures status { HasStatus (record {
+      words = map string_bytes words.now;
+      files = F.content files;
+      file_faults = (F.faults files, F.faults result.files);
+      kernel_faults = (K.faults kernel, K.faults result.kernel);
+      printed = (S.written out.old, S.written out.new);
+      sink_faults = (S.faults out.old, S.faults out.new);
+      log = result.log;
+    }) result.status }
+    ensures exact { IsExact (record {
+      words = map string_bytes words.now;
+      files = F.content files;
+      file_faults = (F.faults files, F.faults result.files);
+      kernel_faults = (K.faults kernel, K.faults result.kernel);
+      printed = (S.written out.old, S.written out.new);
+      sink_faults = (S.faults out.old, S.faults out.new);
+      log = result.log;
+    }) result.status }
+    ensures console { result.console ≡ console }
+    ensures files { F.content result.files ≡ F.content files }
+{
+    carry_out(alloc, words, kernel, console, files, out)
+}
+
+/// Judges the words, then the file, and runs the guest.
+fn carry_out<K: Kernel, C: Console, F: Files, S: Sink>(
     alloc: Global,
     words: &[String],
     kernel: K,

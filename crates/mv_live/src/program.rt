@@ -2,7 +2,7 @@
 ghost use Rattle.std.specs.Prelude.{◌≡◌, map, string_bytes};
 ghost use Rattle.mv_outside.specs.Told.{told_more};
 ghost use Rattle.mv_live.specs.Legal.{outside_of};
-ghost use Rattle.mv_live.specs.Cause.{HasStatus, IsLegal};
+ghost use Rattle.mv_live.specs.Cause.{HasStatus, IsExact, IsLegal};
 
 use crate::command::{Outcome, run_command};
 use mv_outside::{Console, Files, Gate, Kernel, Sink};
@@ -37,6 +37,15 @@ pub fn program<
     ensures done { K.done result.kernel ≡ told_more (K.done kernel) (outside_of result.log.entries.list) }
     ensures legal { IsLegal result.log }
     ensures status { HasStatus (record {
+      words = map string_bytes words.now;
+      files = F.content files;
+      file_faults = (F.faults files, F.faults result.files);
+      kernel_faults = (K.faults kernel, K.faults result.kernel);
+      printed = (S.written out.old, S.written out.new);
+      sink_faults = (S.faults out.old, S.faults out.new);
+      log = result.log;
+    }) result.status }
+    ensures exact { IsExact (record {
       words = map string_bytes words.now;
       files = F.content files;
       file_faults = (F.faults files, F.faults result.files);
