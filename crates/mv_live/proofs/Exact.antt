@@ -1,5 +1,5 @@
 -- The causes exclude one another, so the status is told by the words and the files.
-use Rattle.std.proofs.Common.{◌≡◌, ℕ, List, [], ◌∷◌, Option, Some, None, refl, sym, ap, subst, ◌∙◌, ◌⊎◌, inl, inr, codes}
+use Rattle.std.proofs.Common.{◌≡◌, ℕ, List, [], ◌∷◌, Option, Some, None, sym, ap, subst, ◌∙◌, ◌⊎◌, inl, inr, codes}
 use Rattle.mv_syntax.specs.declared.first_form.FirstForm.{FirstForm}
 use Rattle.mv_syntax.specs.FirstForm.{HasFirstForm}
 use Rattle.mv_outside.specs.Causes.{Rose}

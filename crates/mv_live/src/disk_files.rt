@@ -5,18 +5,29 @@ use mv_calls::{Bytes, Or};
 use mv_outside::{Failed, Files, Found};
 use std::alloc::Global;
 use std::io::{self, Read};
+use std::marker::Model;
 use std::{fs, rt};
 
-/// Reads and writes the files of the system. It tells nothing.
+/// Reads and writes the files of the system. It tells nothing, and contracts see its count of faults.
 #[derive(Drop)]
 pub struct DiskFiles<'a, R: rt::Files> {
     system: &'a R,
     faults: u64,
 }
 
+impl<'a, R: rt::Files> Model for DiskFiles<'a, R> {
+    ghost use Rattle.std.specs.Prelude.{ℕ};
+
+    ghost Value = { ℕ };
+
+    ghost view = { λ f. f.faults };
+}
+
 impl<'a, R: rt::Files> DiskFiles<'a, R> {
     /// The files that this runtime reaches.
-    pub fn new(system: &'a R) -> DiskFiles<'a, R> {
+    pub fn new(system: &'a R) -> DiskFiles<'a, R>
+        ensures { result ≡ 0 }
+    {
         DiskFiles { system, faults: 0 }
     }
 }
@@ -24,7 +35,7 @@ impl<'a, R: rt::Files> DiskFiles<'a, R> {
 impl<R: rt::Files> Files for DiskFiles<'_, R> {
     ghost content = { λ _. None };
 
-    ghost faults = { λ f. f.faults };
+    ghost faults = { λ f. f };
 
     fn read(&mut self, alloc: Global, path: &[u8], cap: usize) -> Found {
         match read_at(alloc, self.system, path, cap) {

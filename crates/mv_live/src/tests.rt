@@ -1,12 +1,18 @@
 //! The command `run` and the program over objects in memory.
 
 use crate::command::{Outcome, run_command};
+use crate::disk_files::DiskFiles;
 use crate::log::{Entry, How, Mark};
 use crate::mem_kernel::MemKernel;
 use crate::program::program;
-use mv_calls::{Bytes, Call, Reply};
-use mv_outside::{FileAt, FreeGate, MemConsole, MemFiles, VecSink, paths_differ};
+use crate::streams::Streams;
+use crate::writer_sink::WriterSink;
+use mv_calls::{Bytes, Call, OutOfMemory, Reply, Room};
+use mv_outside::{
+    FileAt, Files, Found, FreeGate, Kernel, MemConsole, MemFiles, Sink, VecSink, paths_differ,
+};
 use std::alloc::{AllocError, Global};
+use std::io;
 use std::process::Abort;
 use std::test::Fail;
 
@@ -219,5 +225,45 @@ fn the_program_runs_the_words(rt: HostRuntime) -> Result<(), Fail> {
     );
     assert_eq!(rt; came.status, 0);
     assert_eq!(rt; sink.bytes(), b"ended 0\n".as_slice());
+    Ok(())
+}
+
+/// A writer that fails.
+#[derive(Drop)]
+struct Broken;
+
+impl io::Write for Broken {
+    fn write(&mut self, _bytes: &[u8]) -> io::Result<usize> {
+        Err(io::Error::from(io::ErrorKind::BrokenPipe))
+    }
+
+    fn flush(&mut self) -> io::Result<()> {
+        Ok(())
+    }
+}
+
+/// What the kernel answers to a write of `hi` with a line feed.
+fn answer<K: Kernel>(alloc: Global, kernel: &mut K, fd: u32) -> Result<Option<Reply>, OutOfMemory> {
+    let bytes = Bytes::from_slice(alloc, b"hi\n")?;
+    let call = Call::Write { fd, bytes };
+    kernel.ready(alloc, &call)?;
+    let room = Room::make(alloc, &call)?;
+    Ok(kernel.perform(&call, room).ok())
+}
+
+#[test]
+fn the_systems_objects_answer_their_errors(rt: HostRuntime) -> Result<(), Fail> {
+    let alloc = rt.alloc();
+    let mut kernel = Streams::new(Vec::new(alloc), Broken);
+    assert!(rt; matches!(answer(alloc, &mut kernel, 1)?, Some(Reply::Count(3))));
+    assert!(rt; matches!(answer(alloc, &mut kernel, 2)?, Some(Reply::Errno(29))));
+    assert!(rt; matches!(answer(alloc, &mut kernel, 3)?, Some(Reply::Errno(8))));
+    assert!(rt;
+        WriterSink::new(Broken)
+            .write_all_of(alloc, b"ended 0\n")
+            .is_err()
+    );
+    let mut files = DiskFiles::new(&rt);
+    assert!(rt; matches!(files.read(alloc, b"no/such/file", 16), Found::Missing));
     Ok(())
 }
