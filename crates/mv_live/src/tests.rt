@@ -1,20 +1,22 @@
 //! The command `run` and the program over objects in memory.
 
-use crate::command::{Outcome, run_command};
+use crate::command::run_command;
 use crate::disk_files::DiskFiles;
 use crate::log::{Entry, How, Mark};
 use crate::mem_kernel::MemKernel;
 use crate::program::program;
 use crate::streams::Streams;
 use crate::writer_sink::WriterSink;
-use mv_calls::{Bytes, Call, OutOfMemory, Reply, Room};
+use mv_calls::{Bytes, Call, Item, OutOfMemory, Reply, Room};
 use mv_outside::{
     FileAt, Files, Found, FreeGate, Kernel, MemConsole, MemFiles, Sink, VecSink, paths_differ,
 };
 use std::alloc::{AllocError, Global};
 use std::io;
 use std::process::Abort;
+use std::sync::Wait;
 use std::test::Fail;
+use std::thread::Threads;
 
 /// The module of 159 bytes that writes `hi` to descriptor 1 and exits.
 const HELLO: &[u8; 159] = b"\0asm\x01\0\0\0\
@@ -29,8 +31,6 @@ const IOVS: usize = 127;
 
 const CODE: usize = 136;
 
-type Came = Outcome<MemKernel, MemConsole, MemFiles>;
-
 /// The numbers of the calls that are to fail.
 #[derive(Clone, Copy)]
 struct Failing {
@@ -44,6 +44,19 @@ const NONE_FAIL: Failing = Failing {
     read: None,
     print: None,
 };
+
+/// What a run showed.
+#[derive(Drop)]
+struct Shown {
+    status: u8,
+    line: Vec<u8>,
+    /// How many calls the kernel did, and whether the first is the write of `hi`, taken whole.
+    done: usize,
+    says_hi: bool,
+    /// How many entries the log has, and how it ended.
+    entries: usize,
+    how: Option<How>,
+}
 
 fn list(alloc: Global, number: Option<u64>) -> Result<Vec<u64>, AllocError> {
     let mut numbers = Vec::new(alloc);
@@ -80,27 +93,62 @@ fn console(alloc: Global) -> MemConsole {
     MemConsole::new(alloc, Vec::new(alloc), Vec::new(alloc), Vec::new(alloc))
 }
 
+/// How the log ended.
+fn how(entries: &[Entry]) -> Option<How> {
+    match entries.last() {
+        Some(Entry::Mark(Mark::End { how })) => Some(*how),
+        _ => None,
+    }
+}
+
+/// Whether the first of the calls is the write of `hi`, taken whole.
+fn says_hi(done: &[Item]) -> bool {
+    match done.first() {
+        Some(item) => is_hi(item),
+        None => false,
+    }
+}
+
+fn is_hi(item: &Item) -> bool {
+    match (&item.call, &item.reply) {
+        (Call::Write { fd: 1, bytes }, Reply::Count(3)) => bytes.slice() == b"hi\n".as_slice(),
+        _ => false,
+    }
+}
+
+/// Runs the words over these objects.
+fn ran(
+    alloc: Global,
+    words: &[String],
+    kernel: MemKernel,
+    files: MemFiles,
+    mut sink: VecSink,
+) -> Result<Shown, Fail> {
+    let came = run_command(alloc, words, kernel, console(alloc), files, &mut sink);
+    let entries = came.log.entries.slice();
+    Ok(Shown {
+        status: came.status,
+        line: Vec::from_slice(alloc, sink.bytes())?,
+        done: came.kernel.done().len(),
+        says_hi: says_hi(came.kernel.done()),
+        entries: entries.len(),
+        how: how(entries),
+    })
+}
+
 /// Runs the words over one file `hello` with these bytes.
-fn came_of(
+fn row_of(
     rt: &impl Abort,
     alloc: Global,
     words: &[&str],
     module: &[u8],
     fail: Failing,
-) -> Result<(Came, VecSink), Fail> {
+) -> Result<Shown, Fail> {
     let words = texts(alloc, words)?;
     let kernel = MemKernel::new(alloc, list(alloc, fail.perform)?);
     let files = files(rt, alloc, module, fail.read)?;
-    let mut sink = VecSink::new(alloc, list(alloc, fail.print)?);
-    let came = run_command(
-        alloc,
-        words.as_slice(),
-        kernel,
-        console(alloc),
-        files,
-        &mut sink,
-    );
-    Ok((came, sink))
+    let sink = VecSink::new(alloc, list(alloc, fail.print)?);
+    ran(alloc, words.as_slice(), kernel, files, sink)
 }
 
 /// HELLO with one byte changed.
@@ -112,119 +160,159 @@ fn changed(alloc: Global, place: usize, byte: u8) -> Result<Vec<u8>, AllocError>
     Ok(bytes)
 }
 
-/// How the log ended.
-fn how(entries: &[Entry]) -> Option<How> {
-    match entries.last() {
-        Some(Entry::Mark(Mark::End { how })) => Some(*how),
-        _ => None,
-    }
-}
-
-fn is_hi(call: &Call) -> bool {
-    match call {
-        Call::Write { fd, bytes } => *fd == 1 && bytes.slice() == b"hi\n".as_slice(),
-        _ => false,
-    }
-}
-
 #[test]
 fn hello_is_run_to_its_end(rt: HostRuntime) -> Result<(), Fail> {
-    let alloc = rt.alloc();
-    let (came, sink) = came_of(&rt, alloc, &["run", "hello"], HELLO, NONE_FAIL)?;
-    assert_eq!(rt; came.status, 0);
-    assert_eq!(rt; sink.bytes(), b"ended 0\n".as_slice());
-    let done = came.kernel.done();
-    assert_eq!(rt; done.len(), 1);
-    let item = &done[0];
-    assert!(rt; is_hi(&item.call));
-    assert!(rt; matches!(&item.reply, Reply::Count(3)));
-    let entries = came.log.entries.slice();
-    assert_eq!(rt; entries.len(), 2);
-    assert!(rt; matches!(&entries[0], Entry::Call { .. }));
-    assert_eq!(rt; how(entries), Some(How::Ended(0)));
-    assert_eq!(rt; came.log.start.module.slice(), HELLO.as_slice());
+    let row = row_of(&rt, rt.alloc(), &["run", "hello"], HELLO, NONE_FAIL)?;
+    assert_eq!(rt;
+        (row.status, row.line.as_slice() == b"ended 0\n".as_slice()),
+        (0, true)
+    );
+    assert_eq!(rt; (row.done, row.says_hi), (1, true));
+    assert_eq!(rt; (row.entries, row.how), (2, Some(How::Ended(0))));
     Ok(())
 }
 
 #[test]
-fn constants_of_hello_change_its_run(rt: HostRuntime) -> Result<(), Fail> {
-    let alloc = rt.alloc();
-    let seven = changed(alloc, CODE, 7)?;
-    let (came, sink) = came_of(&rt, alloc, &["run", "hello"], seven.as_slice(), NONE_FAIL)?;
-    assert_eq!(rt; came.status, 1);
-    assert_eq!(rt; sink.bytes(), b"ended 7\n".as_slice());
-    // The iovecs stand at -3, so far out of bounds: no call is made.
-    let outside = changed(alloc, IOVS, 0x7d)?;
-    let (came, sink) = came_of(&rt, alloc, &["run", "hello"], outside.as_slice(), NONE_FAIL)?;
-    assert_eq!(rt; came.status, 0);
-    assert_eq!(rt; sink.bytes(), b"ended 0\n".as_slice());
-    assert_eq!(rt; came.kernel.done().len(), 0);
-    assert_eq!(rt; came.log.entries.slice().len(), 1);
+fn the_code_of_the_exit_is_the_status(rt: HostRuntime) -> Result<(), Fail> {
+    let module = changed(rt.alloc(), CODE, 7)?;
+    let row = row_of(
+        &rt,
+        rt.alloc(),
+        &["run", "hello"],
+        module.as_slice(),
+        NONE_FAIL,
+    )?;
+    assert_eq!(rt;
+        (row.status, row.line.as_slice() == b"ended 7\n".as_slice()),
+        (1, true)
+    );
+    Ok(())
+}
+
+#[test]
+fn iovecs_out_of_bounds_make_no_call(rt: HostRuntime) -> Result<(), Fail> {
+    // The iovecs stand at -3.
+    let module = changed(rt.alloc(), IOVS, 0x7d)?;
+    let row = row_of(
+        &rt,
+        rt.alloc(),
+        &["run", "hello"],
+        module.as_slice(),
+        NONE_FAIL,
+    )?;
+    assert_eq!(rt;
+        (row.status, row.line.as_slice() == b"ended 0\n".as_slice()),
+        (0, true)
+    );
+    assert_eq!(rt; (row.done, row.entries), (0, 1));
     Ok(())
 }
 
 #[test]
 fn words_and_files_are_refused(rt: HostRuntime) -> Result<(), Fail> {
-    let alloc = rt.alloc();
-    let (came, sink) = came_of(&rt, alloc, &["run", "nofile"], HELLO, NONE_FAIL)?;
-    assert_eq!(rt; came.status, 3);
-    assert_eq!(rt; sink.bytes(), b"mv: file nofile\n".as_slice());
-    let (came, sink) = came_of(&rt, alloc, &["run", "hello"], b"\0asm\x01\0\0\0", NONE_FAIL)?;
-    assert_eq!(rt; came.status, 4);
-    assert_eq!(rt; sink.bytes(), b"mv: hello: NotYet\n".as_slice());
-    let (came, sink) = came_of(&rt, alloc, &["run"], HELLO, NONE_FAIL)?;
-    assert_eq!(rt; came.status, 2);
-    assert_eq!(rt; sink.bytes(), b"mv: bad words\n".as_slice());
+    let empty = b"\0asm\x01\0\0\0";
+    let row = row_of(&rt, rt.alloc(), &["run", "nofile"], HELLO, NONE_FAIL)?;
+    assert_eq!(rt;
+        (
+            row.status,
+            row.line.as_slice() == b"mv: file nofile\n".as_slice()
+        ),
+        (3, true)
+    );
+    let row = row_of(&rt, rt.alloc(), &["run", "hello"], empty, NONE_FAIL)?;
+    assert_eq!(rt;
+        (
+            row.status,
+            row.line.as_slice() == b"mv: hello: NotYet\n".as_slice()
+        ),
+        (4, true)
+    );
+    let row = row_of(&rt, rt.alloc(), &["run"], HELLO, NONE_FAIL)?;
+    assert_eq!(rt;
+        (
+            row.status,
+            row.line.as_slice() == b"mv: bad words\n".as_slice()
+        ),
+        (2, true)
+    );
     Ok(())
 }
 
 #[test]
-fn failures_of_the_outside_show(rt: HostRuntime) -> Result<(), Fail> {
-    let alloc = rt.alloc();
-    let kernel = Failing {
+fn a_failing_kernel_ends_the_run(rt: HostRuntime) -> Result<(), Fail> {
+    let fail = Failing {
         perform: Some(0),
-        ..NONE_FAIL
+        read: None,
+        print: None,
     };
-    let (came, sink) = came_of(&rt, alloc, &["run", "hello"], HELLO, kernel)?;
-    assert_eq!(rt; came.status, 6);
-    assert_eq!(rt; sink.bytes(), b"kernel fault\n".as_slice());
-    assert_eq!(rt; came.kernel.done().len(), 0);
-    assert_eq!(rt; came.log.entries.slice().len(), 1);
-    assert_eq!(rt; how(came.log.entries.slice()), Some(How::KernelFault));
-    let print = Failing {
-        print: Some(0),
-        ..NONE_FAIL
-    };
-    let (came, _) = came_of(&rt, alloc, &["run", "hello"], HELLO, print)?;
-    assert_eq!(rt; came.status, 7);
-    let read = Failing {
-        read: Some(0),
-        ..NONE_FAIL
-    };
-    let (came, sink) = came_of(&rt, alloc, &["run", "hello"], HELLO, read)?;
-    assert_eq!(rt; came.status, 3);
-    assert_eq!(rt; sink.bytes(), b"mv: file hello\n".as_slice());
+    let row = row_of(&rt, rt.alloc(), &["run", "hello"], HELLO, fail)?;
+    assert_eq!(rt;
+        (
+            row.status,
+            row.line.as_slice() == b"kernel fault\n".as_slice()
+        ),
+        (6, true)
+    );
+    assert_eq!(rt;
+        (row.done, row.entries, row.how),
+        (0, 1, Some(How::KernelFault))
+    );
     Ok(())
+}
+
+#[test]
+fn failing_files_and_sinks_show(rt: HostRuntime) -> Result<(), Fail> {
+    let fail = Failing {
+        perform: None,
+        read: None,
+        print: Some(0),
+    };
+    let row = row_of(&rt, rt.alloc(), &["run", "hello"], HELLO, fail)?;
+    assert_eq!(rt; (row.status, row.done), (7, 1));
+    let fail = Failing {
+        perform: None,
+        read: Some(0),
+        print: None,
+    };
+    let row = row_of(&rt, rt.alloc(), &["run", "hello"], HELLO, fail)?;
+    assert_eq!(rt;
+        (
+            row.status,
+            row.line.as_slice() == b"mv: file hello\n".as_slice()
+        ),
+        (3, true)
+    );
+    Ok(())
+}
+
+/// The status of the program on `run hello`.
+fn status_of_program<R: Threads + Wait + Sync>(
+    rt: &R,
+    alloc: Global,
+    files: MemFiles,
+    mut sink: VecSink,
+) -> Result<u8, Fail> {
+    let words = texts(alloc, &["run", "hello"])?;
+    let kernel = MemKernel::new(alloc, Vec::new(alloc));
+    let gate = FreeGate::new();
+    let came = program(
+        rt,
+        alloc,
+        words.as_slice(),
+        kernel,
+        console(alloc),
+        files,
+        &gate,
+        &mut sink,
+    );
+    Ok(came.status)
 }
 
 #[test]
 fn the_program_runs_the_words(rt: HostRuntime) -> Result<(), Fail> {
-    let alloc = rt.alloc();
-    let words = texts(alloc, &["run", "hello"])?;
-    let files = files(&rt, alloc, HELLO, None)?;
-    let mut sink = VecSink::new(alloc, Vec::new(alloc));
-    let came = program(
-        &rt,
-        alloc,
-        words.as_slice(),
-        MemKernel::new(alloc, Vec::new(alloc)),
-        console(alloc),
-        files,
-        &FreeGate::new(),
-        &mut sink,
-    );
-    assert_eq!(rt; came.status, 0);
-    assert_eq!(rt; sink.bytes(), b"ended 0\n".as_slice());
+    let files = files(&rt, rt.alloc(), HELLO, None)?;
+    let sink = VecSink::new(rt.alloc(), Vec::new(rt.alloc()));
+    assert_eq!(rt; status_of_program(&rt, rt.alloc(), files, sink)?, 0);
     Ok(())
 }
 
@@ -251,19 +339,29 @@ fn answer<K: Kernel>(alloc: Global, kernel: &mut K, fd: u32) -> Result<Option<Re
     Ok(kernel.perform(&call, room).ok())
 }
 
-#[test]
-fn the_systems_objects_answer_their_errors(rt: HostRuntime) -> Result<(), Fail> {
-    let alloc = rt.alloc();
+/// What a write of `hi` to the descriptor was answered: the count, or the errno.
+fn answered(alloc: Global, fd: u32) -> Result<(u32, u16), Fail> {
     let mut kernel = Streams::new(Vec::new(alloc), Broken);
-    assert!(rt; matches!(answer(alloc, &mut kernel, 1)?, Some(Reply::Count(3))));
-    assert!(rt; matches!(answer(alloc, &mut kernel, 2)?, Some(Reply::Errno(29))));
-    assert!(rt; matches!(answer(alloc, &mut kernel, 3)?, Some(Reply::Errno(8))));
-    assert!(rt;
-        WriterSink::new(Broken)
-            .write_all_of(alloc, b"ended 0\n")
-            .is_err()
-    );
+    match answer(alloc, &mut kernel, fd)? {
+        Some(Reply::Count(count)) => Ok((count, 0)),
+        Some(Reply::Errno(errno)) => Ok((0, errno)),
+        _ => Err("no reply")?,
+    }
+}
+
+#[test]
+fn streams_answer_their_errors(rt: HostRuntime) -> Result<(), Fail> {
+    assert_eq!(rt; answered(rt.alloc(), 1)?, (3, 0));
+    assert_eq!(rt; answered(rt.alloc(), 2)?, (0, 29));
+    assert_eq!(rt; answered(rt.alloc(), 3)?, (0, 8));
+    Ok(())
+}
+
+#[test]
+fn a_broken_writer_fails_the_sink(rt: HostRuntime) -> Result<(), Fail> {
+    let mut sink = WriterSink::new(Broken);
+    assert!(rt; sink.write_all_of(rt.alloc(), b"ended 0\n").is_err());
     let mut files = DiskFiles::new(&rt);
-    assert!(rt; matches!(files.read(alloc, b"no/such/file", 16), Found::Missing));
+    assert!(rt; matches!(files.read(rt.alloc(), b"no/such/file", 16), Found::Missing));
     Ok(())
 }
