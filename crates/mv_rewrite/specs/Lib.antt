@@ -1,0 +1,17 @@
+pub mod Bound
+pub mod Deciding
+pub mod DecidingLaws
+pub mod Matching
+pub mod MatchingLaws
+pub mod BindingLaws
+pub mod Decisions
+pub mod Rewriting
+pub mod RewriterState
+pub mod RewriterLaws
+pub mod RewritingLaws
+pub mod KeptLaws
+pub mod Rows
+pub mod Matches
+pub mod MatchesLaws
+pub mod NamesLaws
+pub mod ExactLaws

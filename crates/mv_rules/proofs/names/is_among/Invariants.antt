@@ -1,0 +1,7 @@
+use Rattle.std.proofs.Common.{◌≡◌, drop}
+use Rattle.std.specs.List.{list_any}
+use Rattle.mv_rules.specs.Names.{is_part_name}
+use Rattle.mv_rules.proofs.names.is_among.Given as goal
+
+abbrev pub invariant-loop-part : goal.invariant-loop-part
+invariant-loop-part l = list_any (is_part_name l.name) (drop l.part-index l.parts) ≡ list_any (is_part_name l.name) l.parts
