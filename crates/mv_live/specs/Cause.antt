@@ -1,12 +1,14 @@
 -- The causes of each ending: what holds where it comes (docs/GUIDE.md, "Statuses").
 use Rattle.std.specs.Prelude.{◌≡◌, ℕ, List, [], ◌∷◌, ◌++◌, Option, Some, None, ◌⊎◌}
-use Rattle.mv_syntax.specs.declared.first_form.FirstForm.{FirstForm}
-use Rattle.mv_syntax.specs.FirstForm.{HasFirstForm}
+use Rattle.mv_syntax.specs.declared.fault.ReadFault.{ReadFault}
+use Rattle.mv_machine.specs.declared.first_form.FirstForm.{FirstForm}
+use Rattle.mv_syntax.specs.declared.fault.ValidFault.{ValidFault}
+use Rattle.mv_machine.specs.FirstForm.{HasFirstForm}
 use Rattle.mv_machine.specs.Config.{begun}
 use Rattle.mv_outside.specs.Causes.{Rose}
 use Rattle.mv_outside.specs.Files.{FileMap}
 use Rattle.mv_live.specs.declared.ending.Ending.{Ending}
-use Rattle.mv_live.specs.declared.ending.Ending.TheVariants.{BadWords, NoFile, NotYet, NoMemory, Ran}
+use Rattle.mv_live.specs.declared.ending.Ending.TheVariants.{BadWords, NoFile, Unread, Invalid, NotYet, Valid, BadRules, Rules, NoMemory, Ran}
 use Rattle.mv_live.specs.declared.log.How.{How}
 use Rattle.mv_live.specs.declared.log.How.TheVariants.{KernelFault}
 use Rattle.mv_live.specs.declared.log.Mark.TheVariants.{End}
@@ -14,7 +16,8 @@ use Rattle.mv_live.specs.declared.log.Entry.TheVariants as entry
 use Rattle.mv_live.specs.declared.log.Log.{Log}
 use Rattle.mv_live.specs.Ending.{Shows, run_status}
 use Rattle.mv_live.specs.Legal.{running, AreLegal}
-use Rattle.mv_live.specs.Loaded.{IsMissing, IsRefused, StandsAt}
+use Rattle.mv_live.specs.Loaded.{IsMissing, FileIs, StandsAt}
+use Rattle.mv_live.specs.Modules.{HasFault, IsInvalid, HasNoForm}
 use Rattle.mv_live.specs.Words.{IsRun}
 
 -- What a command was given, and what came of it. Pairs are before and after.
@@ -45,18 +48,26 @@ pub record RanFrom (facts : Facts) (path : List ℕ) (how : How) : Type 0 where
   pub ends : (before : _) × (facts.log.entries.list ≡ before ++ entry.Mark (End how) ∷ [])
   pub fault : how ≡ KernelFault → Rose facts.kernel_faults.0 facts.kernel_faults.1
 
+-- the causes of `run`
 abbrev pub HasCause : Facts → Ending → List ℕ → Type 0
 HasCause facts BadWords path = ((old : List ℕ) → IsRun facts.words old → ⊥) × IsEmptyLog facts.log
 HasCause facts NoFile path =
     IsRun facts.words path × (IsMissing facts.files path ⊎ Rose facts.file_faults.0 facts.file_faults.1) × IsEmptyLog facts.log
-HasCause facts NotYet path = IsRun facts.words path × IsRefused facts.files path × IsEmptyLog facts.log
+HasCause facts (Unread fault) path =
+    IsRun facts.words path × FileIs facts.files path (λ bytes. HasFault bytes fault) × IsEmptyLog facts.log
+HasCause facts (Invalid fault) path =
+    IsRun facts.words path × FileIs facts.files path (λ bytes. IsInvalid bytes fault) × IsEmptyLog facts.log
+HasCause facts NotYet path = IsRun facts.words path × FileIs facts.files path HasNoForm × IsEmptyLog facts.log
+HasCause facts Valid path = ⊥
+HasCause facts (BadRules fault) path = ⊥
+HasCause facts (Rules count) path = ⊥
 HasCause facts NoMemory path = IsRun facts.words path × IsEmptyLog facts.log
 HasCause facts (Ran how) path = IsRun facts.words path × RanFrom facts path how
 
--- The status of a command: an ending has its cause, and shows. Where the sink failed the status is 7, and a part of
+-- The status of `run`: an ending has its cause, and shows. Where the sink failed the status is 7, and a part of
 -- the line was printed; for want of memory it is 9, and nothing was.
-abbrev pub HasStatus : Facts → ℕ → Type 0
-HasStatus facts status =
+abbrev pub HasRunStatus : Facts → ℕ → Type 0
+HasRunStatus facts status =
     (ending : Ending) × (path : List ℕ) × HasCause facts ending path × Shows ending path facts.printed facts.sink_faults status
 
 -- the sink failed, or memory was wanted
@@ -68,12 +79,18 @@ abbrev pub FileFault : Facts → ℕ → Type 0
 FileFault facts status = (status ≡ 3) × Rose facts.file_faults.0 facts.file_faults.1
 
 -- The other way round: which status comes, by what the words and the told files are.
-pub record IsExact (facts : Facts) (status : ℕ) : Type 0 where
+pub record IsRunExact (facts : Facts) (status : ℕ) : Type 0 where
   pub bad_words : ((old : List ℕ) → IsRun facts.words old → ⊥) → (status ≡ 2) ⊎ Otherwise facts status
   pub missing : (old : List ℕ) (files : FileMap) → IsRun facts.words old → facts.files ≡ Some files → files old ≡ None →
       (status ≡ 3) ⊎ Otherwise facts status
-  pub refused : (old : List ℕ) (files : FileMap) (bytes : List ℕ) → IsRun facts.words old → facts.files ≡ Some files →
-      files old ≡ Some bytes → ((form : FirstForm) → HasFirstForm bytes form → ⊥) →
+  pub unread : (old : List ℕ) (files : FileMap) (bytes : List ℕ) (fault : ReadFault) → IsRun facts.words old →
+      facts.files ≡ Some files → files old ≡ Some bytes → HasFault bytes fault →
+      (status ≡ 4) ⊎ (FileFault facts status ⊎ Otherwise facts status)
+  pub invalid : (old : List ℕ) (files : FileMap) (bytes : List ℕ) (fault : ValidFault) → IsRun facts.words old →
+      facts.files ≡ Some files → files old ≡ Some bytes → IsInvalid bytes fault →
+      (status ≡ 4) ⊎ (FileFault facts status ⊎ Otherwise facts status)
+  pub not_yet : (old : List ℕ) (files : FileMap) (bytes : List ℕ) → IsRun facts.words old →
+      facts.files ≡ Some files → files old ≡ Some bytes → HasNoForm bytes →
       (status ≡ 4) ⊎ (FileFault facts status ⊎ Otherwise facts status)
   pub ran : (old : List ℕ) (files : FileMap) (bytes : List ℕ) (form : FirstForm) → IsRun facts.words old →
       facts.files ≡ Some files → files old ≡ Some bytes → HasFirstForm bytes form →

@@ -3,7 +3,8 @@ use Rattle.std.specs.Prelude.{◌≡◌, ℕ, ◌==◌, if◌then◌else◌, Lis
 use Rattle.mv_outside.specs.Causes.{Rose}
 use Rattle.mv_outside.specs.Told.{told_more, AddsPart}
 use Rattle.mv_live.specs.declared.ending.Ending.{Ending}
-use Rattle.mv_live.specs.declared.ending.Ending.TheVariants.{BadWords, NoFile, NotYet, NoMemory, Ran}
+use Rattle.mv_live.specs.declared.ending.Ending.TheVariants.{BadWords, NoFile, Unread, Invalid, NotYet, Valid, BadRules, Rules, NoMemory, Ran}
+use Rattle.mv_live.specs.FaultLines.{read_fault_text, valid_fault_text, rule_fault_text}
 use Rattle.mv_live.specs.declared.log.How.{How}
 use Rattle.mv_live.specs.declared.log.How.TheVariants.{Ended, KernelFault, Memory}
 
@@ -16,7 +17,12 @@ run_status Memory = 9
 abbrev pub status_of : Ending → ℕ
 status_of BadWords = 2
 status_of NoFile = 3
+status_of (Unread fault) = 4
+status_of (Invalid fault) = 4
 status_of NotYet = 4
+status_of Valid = 0
+status_of (BadRules fault) = 4
+status_of (Rules count) = 0
 status_of NoMemory = 9
 status_of (Ran how) = run_status how
 
@@ -32,7 +38,12 @@ end_line Memory = codes "no memory" ++ line_feed
 abbrev pub line_of : Ending → List ℕ → List ℕ
 line_of BadWords path = codes "mv: bad words" ++ line_feed
 line_of NoFile path = codes "mv: file " ++ (path ++ line_feed)
+line_of (Unread fault) path = read_fault_text path fault
+line_of (Invalid fault) path = valid_fault_text path fault
 line_of NotYet path = codes "mv: " ++ (path ++ (codes ": NotYet" ++ line_feed))
+line_of Valid path = codes "valid" ++ line_feed
+line_of (BadRules fault) path = rule_fault_text path fault
+line_of (Rules count) path = codes "rules " ++ (decimal count ++ line_feed)
 line_of NoMemory path = end_line Memory
 line_of (Ran how) path = end_line how
 

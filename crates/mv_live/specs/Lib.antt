@@ -1,8 +1,14 @@
 pub mod Cause
+pub mod CheckCause
 pub mod Ending
+pub mod FaultLines
+pub mod FileCause
 pub mod Legal
 pub mod Loaded
 pub mod MemKernel
+pub mod Modules
+pub mod ProgramCause
 pub mod Roomy
+pub mod RulesCause
 pub mod Runs
 pub mod Words

@@ -1,10 +1,10 @@
 //! The command `run`.
 ghost use Rattle.std.specs.Prelude.{◌≡◌, ◌≤◌, [], ◌∷◌, IfOk, map, string_bytes};
-ghost use Rattle.mv_syntax.specs.FirstForm.{IsFirstForm};
+ghost use Rattle.mv_machine.specs.FirstForm.{IsFirstForm};
 ghost use Rattle.mv_machine.specs.Config.{begun};
 ghost use Rattle.mv_outside.specs.Told.{told_more};
 ghost use Rattle.mv_live.specs.Legal.{outside_of};
-ghost use Rattle.mv_live.specs.Cause.{HasCause, HasStatus, IsExact, IsEmptyLog, IsLegal};
+ghost use Rattle.mv_live.specs.Cause.{HasCause, HasRunStatus, IsRunExact, IsEmptyLog, IsLegal};
 ghost use Rattle.mv_live.specs.Words.{IsRun};
 
 use crate::ending::Ending;
@@ -12,11 +12,10 @@ use crate::lines::print;
 use crate::log::{Log, Start};
 use crate::module::{Loaded, module_at};
 use crate::run::run;
-use crate::words::old_of;
+use crate::words::path_of;
 use mv_calls::{Bytes, OutOfMemory, Texts};
-use mv_machine::Machine;
+use mv_machine::{FirstForm, Machine};
 use mv_outside::{Console, Files, Kernel, Sink};
-use mv_syntax::FirstForm;
 use std::alloc::Global;
 
 /// What a command came to, with the objects that it was given.
@@ -53,7 +52,7 @@ pub fn run_command<K: Kernel, C: Console, F: Files, S: Sink>(
 ) -> Outcome<K, C, F>
     ensures done { K.done result.kernel ≡ told_more (K.done kernel) (outside_of result.log.entries.list) }
     ensures legal { IsLegal result.log }
-    ensures status { HasStatus (record {
+    ensures status { HasRunStatus (record {
       words = map string_bytes words.now;
       files = F.content files;
       file_faults = (F.faults files, F.faults result.files);
@@ -62,7 +61,7 @@ pub fn run_command<K: Kernel, C: Console, F: Files, S: Sink>(
       sink_faults = (S.faults out.old, S.faults out.new);
       log = result.log;
     }) result.status }
-    ensures exact { IsExact (record {
+    ensures exact { IsRunExact (record {
       words = map string_bytes words.now;
       files = F.content files;
       file_faults = (F.faults files, F.faults result.files);
@@ -88,7 +87,7 @@ fn carry_out<K: Kernel, C: Console, F: Files, S: Sink>(
 ) -> Outcome<K, C, F>
     ensures done { K.done result.kernel ≡ told_more (K.done kernel) (outside_of result.log.entries.list) }
     ensures legal { IsLegal result.log }
-    ensures status { HasStatus (record {
+    ensures status { HasRunStatus (record {
       words = map string_bytes words.now;
       files = F.content files;
       file_faults = (F.faults files, F.faults result.files);
@@ -100,7 +99,7 @@ fn carry_out<K: Kernel, C: Console, F: Files, S: Sink>(
     ensures console { result.console ≡ console }
     ensures files { F.content result.files ≡ F.content files }
 {
-    let Some(path) = old_of(words) else {
+    let Some(path) = path_of(words, "run") else {
         let status = print(alloc, Ending::BadWords, "", out);
         return Outcome {
             status,
@@ -138,6 +137,8 @@ fn came_of<K: Kernel, F: Files>(alloc: Global, path: &str, kernel: K, files: &mu
 {
     match module_at(alloc, path, files) {
         Loaded::NoFile => not_started(alloc, Ending::NoFile, kernel),
+        Loaded::Unread(fault) => not_started(alloc, Ending::Unread(fault), kernel),
+        Loaded::Invalid(fault) => not_started(alloc, Ending::Invalid(fault), kernel),
         Loaded::NotYet => not_started(alloc, Ending::NotYet, kernel),
         Loaded::NoMemory => not_started(alloc, Ending::NoMemory, kernel),
         Loaded::FirstForm { bytes, form } => match start(alloc, path, bytes, &form) {

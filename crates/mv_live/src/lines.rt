@@ -3,6 +3,7 @@ ghost use Rattle.std.specs.Prelude.{◌≡◌, IfOk, string_bytes};
 ghost use Rattle.mv_live.specs.Ending.{line_of, Shows};
 
 use crate::ending::Ending;
+use crate::fault_lines::{read_fault_line, rule_fault_line, valid_fault_line};
 use crate::log::How;
 use mv_calls::{Or, OutOfMemory};
 use mv_outside::Sink;
@@ -21,7 +22,12 @@ fn line(alloc: Global, ending: Ending, path: &str) -> Result<String, OutOfMemory
     let text = match ending {
         Ending::BadWords => format!(in alloc; "mv: bad words\n")?,
         Ending::NoFile => format!(in alloc; "mv: file {path}\n")?,
+        Ending::Unread(fault) => read_fault_line(alloc, path, fault)?,
+        Ending::Invalid(fault) => valid_fault_line(alloc, path, fault)?,
         Ending::NotYet => format!(in alloc; "mv: {path}: NotYet\n")?,
+        Ending::Valid => format!(in alloc; "valid\n")?,
+        Ending::BadRules(fault) => rule_fault_line(alloc, path, fault)?,
+        Ending::Rules(count) => format!(in alloc; "rules {count}\n")?,
         Ending::NoMemory | Ending::Ran(How::Memory) => format!(in alloc; "no memory\n")?,
         Ending::Ran(How::Ended(code)) => format!(in alloc; "ended {code}\n")?,
         Ending::Ran(How::KernelFault) => format!(in alloc; "kernel fault\n")?,

@@ -1,16 +1,19 @@
 //! `mv`: a host for live updates of WebAssembly servers.
 #![tactic(auto)]
 
+mod check;
 mod command;
 mod disk_files;
 mod ending;
 mod entries;
+mod fault_lines;
 mod lines;
 mod log;
 mod mem_kernel;
 mod module;
 mod no_console;
 mod program;
+mod rules;
 mod run;
 mod streams;
 #[cfg(test)]

@@ -2,9 +2,13 @@
 ghost use Rattle.std.specs.Prelude.{◌≡◌, map, string_bytes};
 ghost use Rattle.mv_outside.specs.Told.{told_more};
 ghost use Rattle.mv_live.specs.Legal.{outside_of};
-ghost use Rattle.mv_live.specs.Cause.{HasStatus, IsExact, IsLegal};
+ghost use Rattle.mv_live.specs.Cause.{IsLegal};
+ghost use Rattle.mv_live.specs.ProgramCause.{HasStatus, IsExact};
 
+use crate::check::check_command;
 use crate::command::{Outcome, run_command};
+use crate::rules::rules_command;
+use crate::words::names_command;
 use mv_outside::{Console, Files, Gate, Kernel, Sink};
 use std::alloc::Global;
 use std::sync::Wait;
@@ -16,7 +20,7 @@ use std::thread::Threads;
 /// log is a run of the module that the words name. The status has its cause by the table of statuses,
 /// and what is printed is its line.
 ///
-/// The command `run` starts no thread and waits for nothing, so `rt` and `gate` aren't used yet.
+/// The commands so far start no thread and wait for nothing, so `rt` and `gate` aren't used yet.
 pub fn program<
     R: Threads + Wait + Sync,
     K: Kernel + Send,
@@ -59,5 +63,11 @@ pub fn program<
 {
     let _ = rt;
     let _ = gate;
-    run_command(alloc, words, kernel, console, files, out)
+    if names_command(words, "rules") {
+        rules_command(alloc, words, kernel, console, files, out)
+    } else if names_command(words, "check") {
+        check_command(alloc, words, kernel, console, files, out)
+    } else {
+        run_command(alloc, words, kernel, console, files, out)
+    }
 }

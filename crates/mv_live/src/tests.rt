@@ -1,16 +1,20 @@
 //! The command `run` and the program over objects in memory.
 
+use crate::check::check_command;
 use crate::command::run_command;
 use crate::disk_files::DiskFiles;
 use crate::log::{Entry, How, Mark};
 use crate::mem_kernel::MemKernel;
 use crate::program::program;
+use crate::rules::rules_command;
 use crate::streams::Streams;
 use crate::writer_sink::WriterSink;
 use mv_calls::{Bytes, Call, Item, OutOfMemory, Reply, Room};
 use mv_outside::{
     FileAt, Files, Found, FreeGate, Kernel, MemConsole, MemFiles, Sink, VecSink, paths_differ,
 };
+use mv_reader::read_module;
+use mv_writer::write_module;
 use std::alloc::{AllocError, Global};
 use std::io;
 use std::process::Abort;
@@ -209,6 +213,186 @@ fn iovecs_out_of_bounds_make_no_call(rt: HostRuntime) -> Result<(), Fail> {
 }
 
 #[test]
+fn padded_numbers_are_read(rt: HostRuntime) -> Result<(), Fail> {
+    // The size of the memory section, which is 3, in five bytes.
+    let hello = HELLO.as_slice();
+    let mut module = Vec::from_slice(rt.alloc(), &hello[..103])?;
+    module.extend_from_slice(b"\x83\x80\x80\x80\x00")?;
+    module.extend_from_slice(&hello[104..])?;
+    let row = row_of(
+        &rt,
+        rt.alloc(),
+        &["run", "hello"],
+        module.as_slice(),
+        NONE_FAIL,
+    )?;
+    assert_eq!(rt;
+        (row.status, row.line.as_slice() == b"ended 0\n".as_slice()),
+        (0, true)
+    );
+    Ok(())
+}
+
+#[test]
+fn rules_are_counted_or_refused(rt: HostRuntime) -> Result<(), Fail> {
+    let alloc = rt.alloc();
+    let drops = b"mvrules 1\nrule\nread $f -> @x\nto\nend\n".as_slice();
+    let keeps =
+        b"mvrules 1\nrule\nwrite $f \"OK\" -> all\nto\nwrite $f \"+OK\" -> all\nend".as_slice();
+    let rows = [
+        (keeps, 0, b"rules 1\n".as_slice()),
+        (drops, 4, b"mv: hello: Reads 2\n".as_slice()),
+        // Without the last line.
+        (
+            &drops[..drops.len() - 4],
+            4,
+            b"mv: hello: Shape 5\n".as_slice(),
+        ),
+    ];
+    for (text, status, line) in rows {
+        let row = judged(&rt, alloc, text)?;
+        assert_eq!(rt; (row.status, row.line.as_slice() == line), (status, true));
+    }
+    Ok(())
+}
+
+/// What `rules` says of a text.
+fn judged(rt: &impl Abort, alloc: Global, text: &[u8]) -> Result<Shown, Fail> {
+    let words = texts(alloc, &["rules", "hello"])?;
+    let kernel = MemKernel::new(alloc, Vec::new(alloc));
+    let files = files(rt, alloc, text, None)?;
+    let mut sink = VecSink::new(alloc, Vec::new(alloc));
+    let came = rules_command(
+        alloc,
+        words.as_slice(),
+        kernel,
+        console(alloc),
+        files,
+        &mut sink,
+    );
+    no_guest(alloc, came.status, &sink)
+}
+
+/// What `check` says of the file of this path, where the file `hello` is this module.
+fn checked(rt: &impl Abort, alloc: Global, path: &str, module: &[u8]) -> Result<Shown, Fail> {
+    let words = texts(alloc, &["check", path])?;
+    let kernel = MemKernel::new(alloc, Vec::new(alloc));
+    let files = files(rt, alloc, module, None)?;
+    let mut sink = VecSink::new(alloc, Vec::new(alloc));
+    let came = check_command(
+        alloc,
+        words.as_slice(),
+        kernel,
+        console(alloc),
+        files,
+        &mut sink,
+    );
+    no_guest(alloc, came.status, &sink)
+}
+
+/// What a command showed that started no guest.
+fn no_guest(alloc: Global, status: u8, sink: &VecSink) -> Result<Shown, Fail> {
+    Ok(Shown {
+        status,
+        line: Vec::from_slice(alloc, sink.bytes())?,
+        done: 0,
+        says_hi: false,
+        entries: 0,
+        how: None,
+    })
+}
+
+#[test]
+fn modules_are_valid_or_have_their_first_fault(rt: HostRuntime) -> Result<(), Fail> {
+    let empty = b"\0asm\x01\0\0\0".as_slice();
+    // i32.const 1, i64.const 1, i32.add, drop
+    let operand = b"\0asm\x01\0\0\0\x01\x04\x01\x60\0\0\x03\x02\x01\0\
+\x0a\x0a\x01\x08\0\x41\x01\x42\x01\x6a\x1a\x0b"
+        .as_slice();
+    // br 0, i32.add, drop
+    let dead = b"\0asm\x01\0\0\0\x01\x04\x01\x60\0\0\x03\x02\x01\0\
+\x0a\x08\x01\x06\0\x0c\0\x6a\x1a\x0b"
+        .as_slice();
+    let long_number = b"\0asm\x01\0\0\0\x05\x83\x80\x80\x80\x80\0\x01\0\x01".as_slice();
+    let float = b"\0asm\x01\0\0\0\x01\x04\x01\x60\0\0\x03\x02\x01\0\
+\x0a\x0b\x01\x09\0\0\x43\0\0\0\0\x1a\x0b"
+        .as_slice();
+    let rows = [
+        ("hello", empty, 0, b"valid\n".as_slice()),
+        ("hello", HELLO.as_slice(), 0, b"valid\n".as_slice()),
+        ("hello", dead, 0, b"valid\n".as_slice()),
+        ("nofile", empty, 3, b"mv: file nofile\n".as_slice()),
+        ("hello", &empty[..7], 4, b"mv: hello: Cut 7\n".as_slice()),
+        ("hello", long_number, 4, b"mv: hello: Leb 9\n".as_slice()),
+        ("hello", float, 4, b"mv: hello: Float 24\n".as_slice()),
+        (
+            "hello",
+            operand,
+            4,
+            b"mv: hello: Operand 10 0 2\n".as_slice(),
+        ),
+    ];
+    for (path, module, status, line) in rows {
+        let row = checked(&rt, rt.alloc(), path, module)?;
+        assert_eq!(rt; (row.status, row.line.as_slice() == line), (status, true));
+    }
+    Ok(())
+}
+
+/// A body with each opcode, `else` within an `if`, up to those without immediates.
+const OPCODES: &[u8] = b"\x00\x01\x02\x40\x0b\x03\x7f\x0b\x04\x7e\x05\x0b\
+\x0c\x00\x0d\x00\x0e\x01\x00\x00\x0f\x10\x00\x11\x00\x00\x1a\x1b\
+\x20\x00\x21\x00\x22\x00\x23\x00\x24\x00\
+\x28\x02\x00\x29\x03\x00\x2c\x00\x00\x2d\x00\x00\x2e\x01\x00\x2f\x01\x00\
+\x30\x00\x00\x31\x00\x00\x32\x01\x00\x33\x01\x00\x34\x02\x00\x35\x02\x00\
+\x36\x02\x00\x37\x03\x00\x3a\x00\x00\x3b\x01\x00\x3c\x00\x00\x3d\x01\x00\x3e\x02\x00\
+\x3f\x00\x40\x00\x41\x7f\x42\x80\x01";
+
+/// A module of one function with each opcode once, each number in its shortest spelling.
+fn every_opcode(alloc: Global) -> Result<Vec<u8>, Fail> {
+    let mut body = Vec::from_slice(alloc, b"\x00")?;
+    body.extend_from_slice(OPCODES)?;
+    for (first, last) in [(0x45, 0x5a), (0x67, 0x8a), (0xa7, 0xa7), (0xac, 0xad)] {
+        for opcode in first..=last {
+            body.push(opcode)?;
+        }
+    }
+    body.push(0x0b)?;
+    let mut module = Vec::from_slice(
+        alloc,
+        b"\0asm\x01\0\0\0\x01\x04\x01\x60\x00\x00\x03\x02\x01\x00\x0a".as_slice(),
+    )?;
+    // The count of bodies stands before the body's size, which has two bytes.
+    module.extend_from_slice(&two_groups(body.len() + 3))?;
+    module.push(1)?;
+    module.extend_from_slice(&two_groups(body.len()))?;
+    module.extend_from_slice(body.as_slice())?;
+    Ok(module)
+}
+
+/// A number from 128 to 16,383 in its two groups of seven bits.
+fn two_groups(number: usize) -> [u8; 2] {
+    [(number % 128) as u8 | 0x80, (number / 128 % 128) as u8]
+}
+
+#[test]
+fn every_opcode_is_read_and_written(rt: HostRuntime) -> Result<(), Fail> {
+    let bytes = every_opcode(rt.alloc())?;
+    let module = read_module(rt.alloc(), bytes.as_slice())?;
+    let written = write_module(rt.alloc(), &module)?;
+    assert!(rt; written.as_slice() == bytes.as_slice());
+    Ok(())
+}
+
+#[test]
+fn hello_is_written_as_it_is_read(rt: HostRuntime) -> Result<(), Fail> {
+    let module = read_module(rt.alloc(), HELLO)?;
+    let written = write_module(rt.alloc(), &module)?;
+    assert!(rt; written.as_slice() == HELLO.as_slice());
+    Ok(())
+}
+
+#[test]
 fn words_and_files_are_refused(rt: HostRuntime) -> Result<(), Fail> {
     let empty = b"\0asm\x01\0\0\0";
     let row = row_of(&rt, rt.alloc(), &["run", "nofile"], HELLO, NONE_FAIL)?;
@@ -224,6 +408,14 @@ fn words_and_files_are_refused(rt: HostRuntime) -> Result<(), Fail> {
         (
             row.status,
             row.line.as_slice() == b"mv: hello: NotYet\n".as_slice()
+        ),
+        (4, true)
+    );
+    let row = row_of(&rt, rt.alloc(), &["run", "hello"], &HELLO[..7], NONE_FAIL)?;
+    assert_eq!(rt;
+        (
+            row.status,
+            row.line.as_slice() == b"mv: hello: Cut 7\n".as_slice()
         ),
         (4, true)
     );

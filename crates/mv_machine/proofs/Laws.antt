@@ -31,6 +31,31 @@ met_shorter memory (value ∷ operands) (instr.Drop ∷ rest) w e =
 met_shorter memory operands (instr.Call index ∷ rest) w e =
     call_shorter (called memory index operands) rest (met memory (operands_after (called memory index operands)) rest) w e
     (met_shorter memory (operands_after (called memory index operands)) rest w)
+met_shorter memory operands (instr.Unreachable ∷ rest) w e = absurd cc
+met_shorter memory operands (instr.Nop ∷ rest) w e = absurd cc
+met_shorter memory operands (instr.Block t ∷ rest) w e = absurd cc
+met_shorter memory operands (instr.Loop t ∷ rest) w e = absurd cc
+met_shorter memory operands (instr.If t ∷ rest) w e = absurd cc
+met_shorter memory operands (instr.Else ∷ rest) w e = absurd cc
+met_shorter memory operands (instr.Br l ∷ rest) w e = absurd cc
+met_shorter memory operands (instr.BrIf l ∷ rest) w e = absurd cc
+met_shorter memory operands (instr.BrTable ls l ∷ rest) w e = absurd cc
+met_shorter memory operands (instr.Return ∷ rest) w e = absurd cc
+met_shorter memory operands (instr.CallIndirect t ∷ rest) w e = absurd cc
+met_shorter memory operands (instr.Select ∷ rest) w e = absurd cc
+met_shorter memory operands (instr.LocalGet x ∷ rest) w e = absurd cc
+met_shorter memory operands (instr.LocalSet x ∷ rest) w e = absurd cc
+met_shorter memory operands (instr.LocalTee x ∷ rest) w e = absurd cc
+met_shorter memory operands (instr.GlobalGet x ∷ rest) w e = absurd cc
+met_shorter memory operands (instr.GlobalSet x ∷ rest) w e = absurd cc
+met_shorter memory operands (instr.Load t n s a o ∷ rest) w e = absurd cc
+met_shorter memory operands (instr.Store t n a o ∷ rest) w e = absurd cc
+met_shorter memory operands (instr.MemorySize ∷ rest) w e = absurd cc
+met_shorter memory operands (instr.MemoryGrow ∷ rest) w e = absurd cc
+met_shorter memory operands (instr.Un o ∷ rest) w e = absurd cc
+met_shorter memory operands (instr.Test o ∷ rest) w e = absurd cc
+met_shorter memory operands (instr.Rel o ∷ rest) w e = absurd cc
+met_shorter memory operands (instr.Bin o ∷ rest) w e = absurd cc
 
 rest_shorter : (config : Config) (m : Met) (call : Call) (reply : Reply) → ((w : Waiting) → m ≡ Waits w → length w.rest < length config.rest) →
     event_of m ≡ Calls call → length ((answered_at config m reply).rest) < length config.rest

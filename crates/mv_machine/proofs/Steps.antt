@@ -3,7 +3,7 @@ use Rattle.std.proofs.Common.{◌≡◌, ℕ, ◌+◌, ◌*◌, ◌≤◌, Bool,
 use Rattle.std.proofs.lemmas.Bool.{leb-true}
 use Rattle.mv_calls.specs.declared.calls.Call.{Call}
 use Rattle.mv_calls.specs.declared.calls.Reply.{Reply}
-use Rattle.mv_syntax.specs.FirstForm.{write_body, exit_body}
+use Rattle.mv_machine.specs.FirstForm.{write_body, exit_body}
 use Rattle.mv_machine.specs.declared.event.Event.TheVariants.{Calls, Ends}
 use Rattle.mv_machine.specs.declared.event.Made.{Made}
 use Rattle.mv_machine.specs.declared.event.Made.TheVariants.{Outside, Local}

@@ -1,4 +1,5 @@
 pub mod Config
 pub mod FdWrite
+pub mod FirstForm
 pub mod Stands
 pub mod Step

@@ -1,7 +1,7 @@
 -- Where the machine stands, by what it keeps.
 use Rattle.std.specs.Prelude.{ℕ, List, [], ◌∷◌, Option, Some, None}
 use Rattle.mv_syntax.specs.declared.instr.Instr.{Instr}
-use Rattle.mv_syntax.specs.FirstForm.{write_body, exit_body}
+use Rattle.mv_machine.specs.FirstForm.{write_body, exit_body}
 use Rattle.mv_machine.specs.Config.{Config}
 use Rattle.mv_machine.specs.declared.event.Event.{Event}
 use Rattle.mv_machine.specs.declared.event.Event.TheVariants.{Calls, Ends}

@@ -56,7 +56,7 @@ met_call (Asks call result_at operands) rest behind =
 met_call (Answers errno operands) rest behind = behind
 met_call (Exits code) rest behind = Stops code
 
--- one row an instruction; the end of _start is the end with code 0
+-- one row an instruction; the end of _start is the end with code 0. A body of the first form has no other instruction.
 abbrev pub met : List ℕ → List ℕ → List Instr → Met
 met memory operands [] = Stops 0
 met memory operands (instr.End ∷ rest) = Stops 0
@@ -65,6 +65,7 @@ met memory [] (instr.Drop ∷ rest) = Stops 0
 met memory (value ∷ operands) (instr.Drop ∷ rest) = met memory operands rest
 met memory operands (instr.Call index ∷ rest) =
     met_call (called memory index operands) rest (met memory (operands_after (called memory index operands)) rest)
+met memory operands (other ∷ rest) = Stops 0
 
 abbrev pub met_from : Config → Met
 met_from config = met config.memory config.operands config.rest

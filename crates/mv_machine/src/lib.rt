@@ -6,10 +6,12 @@
 
 mod event;
 mod fd_write;
+mod first_form;
 mod machine;
 #[cfg(test)]
 mod tests;
 
 pub use event::{Event, Made};
 pub use fd_write::decode_write;
+pub use first_form::{FirstForm, find_first_form};
 pub use machine::Machine;

@@ -6,16 +6,16 @@ ghost use Rattle.std.specs.Prelude.{◌≡◌, ◌≤◌, ◌+◌, ◌++◌, IfO
 ghost use Rattle.byteorder.specs.Endian.{little_bytes};
 ghost use Rattle.mv_calls.specs.Suits.{suits_of};
 ghost use Rattle.mv_calls.specs.declared.calls.Call.{Call};
-ghost use Rattle.mv_syntax.specs.FirstForm.{IsFirstForm, page_size};
+ghost use Rattle.mv_machine.specs.FirstForm.{IsFirstForm, page_size};
 ghost use Rattle.mv_machine.specs.Config.{zeros, page_of, written, begun};
 ghost use Rattle.mv_machine.specs.Step.{go, after, outputs, errno_of};
 ghost use Rattle.mv_machine.specs.Stands.{first_event_of};
 
 use crate::event::{Event, Made};
 use crate::fd_write::decode_write;
+use crate::first_form::FirstForm;
 use byteorder::{ByteOrder, LittleEndian};
 use mv_calls::{OutOfMemory, Reply};
-use mv_syntax::FirstForm;
 use std::alloc::Global;
 use std::marker::Model;
 

@@ -1,8 +1,8 @@
 //! `fd_write` at the edges of its ranges, and the machine of the module of 159 bytes.
 
 use super::*;
+use crate::first_form::FirstForm;
 use mv_calls::{Bytes, Call, OutOfMemory, Reply};
-use mv_syntax::FirstForm;
 use std::alloc::Global;
 use std::test::Fail;
 

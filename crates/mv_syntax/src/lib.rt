@@ -1,12 +1,21 @@
-//! The abstract syntax of WebAssembly Core 1.0, without floating point, as far as it is built.
+//! The abstract syntax of WebAssembly Core 1.0, without floating point, and the faults of modules. Which bytes spell a
+//! module is defined in `specs/`.
 #![tactic(auto)]
 
-mod first_form;
+mod fault;
 mod instr;
+mod laws;
+mod lists;
+mod module;
 mod ops;
-#[cfg(test)]
-mod tests;
+mod types;
 
-pub use first_form::{FirstForm, NotYet, read_first_form};
+pub use fault::{BornFault, ReadFault, ReadKind, StartFault, ValidFault, ValidKind};
 pub use instr::Instr;
+pub use laws::{a_file_is_one_module_or_faulty, bodies_are_standard, numbers_are_standard};
+pub use lists::{
+    Code, Elements, Exports, FuncTypes, Funcs, Globals, Imports, Indices, Segments, ValTypes,
+};
+pub use module::{Element, Export, Func, Global, Import, Module, Segment};
 pub use ops::{BinOp, Binary, Compare, RelOp, TestOp, UnOp, ValType};
+pub use types::{FuncType, Limits};

@@ -1,0 +1,5 @@
+use Rattle.mv_syntax.specs.ExpressionLaws.{bodies_law}
+use Rattle.mv_syntax.proofs.laws.bodies_are_standard.Goals as goal
+
+pub returns : goal.returns
+returns c = bodies_law

@@ -1,0 +1,10 @@
+pub mod Naturals
+pub mod Stacks
+pub mod Rows
+pub mod Claims
+pub mod Closing
+pub mod Flat
+pub mod Labels
+pub mod Counts
+pub mod Scans
+pub mod Laws

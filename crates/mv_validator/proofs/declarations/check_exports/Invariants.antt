@@ -1,0 +1,7 @@
+use Rattle.std.proofs.Common.{◌≡◌}
+use Rattle.mv_validator.specs.Checks.{ExportedAs}
+use Rattle.mv_validator.proofs.Scans.{Before, PassesAt}
+use Rattle.mv_validator.proofs.declarations.check_exports.Given as goal
+
+abbrev pub invariant-loop-item : goal.invariant-loop-item
+invariant-loop-item l = (l.export-items ≡ l.«module».exports) × Before (PassesAt l.«module» (λ n x. ExportedAs n x)) l.export-items l.item

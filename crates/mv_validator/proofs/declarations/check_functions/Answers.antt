@@ -1,0 +1,19 @@
+use Rattle.std.proofs.Common.{refl, sym, ◌∙◌}
+use Rattle.mv_validator.specs.Checks.{TypeOfFunc}
+use Rattle.mv_validator.proofs.Scans.{PassesAt, before-more, found, all-found}
+use Rattle.mv_validator.proofs.declarations.check_functions.Goals as goal
+
+pub returns-in-Some : goal.returns-in-Some
+returns-in-Some c =
+    let p = c.args.«module».now in
+    found p 3 (λ n x. TypeOfFunc x) c.slice-func-items.result.now p.funcs c.loop-item.item c.func-item.result c.fault.result c.in-Some.kind c.loop-item.invariant.0 c.loop-item.invariant.1 c.loop-item-test.true c.func-item.is c.fault.ensures (refl, sym c.in-Some.ensures)
+
+pub loop-item-preserved : goal.loop-item-preserved
+loop-item-preserved c =
+    let p = c.args.«module».now in
+    (c.loop-item.invariant.0, before-more (PassesAt p (λ n x. TypeOfFunc x)) c.slice-func-items.result.now c.loop-item.item c.func-item.result c.loop-item-test.true c.func-item.is c.loop-item.invariant.1 (sym c.type_fault.ensures ∙ c.in_default.is))
+
+pub returns : goal.returns
+returns c =
+    let p = c.args.«module».now in
+    all-found p 3 (λ n x. TypeOfFunc x) c.slice-func-items.result.now p.funcs c.loop-item.item c.loop-item.invariant.0 c.loop-item-test.false c.loop-item.invariant.1

@@ -1,0 +1,9 @@
+pub mod Types
+pub mod Typing
+pub mod Faults
+pub mod Slots
+pub mod Levels
+pub mod Views
+pub mod Valid
+pub mod Checks
+pub mod Counted
