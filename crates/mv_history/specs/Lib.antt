@@ -1,0 +1,16 @@
+pub mod Answers
+pub mod Audit
+pub mod Followers
+pub mod Leads
+pub mod Payload
+pub mod Places
+pub mod Replay
+pub mod Roomy
+pub mod Rules
+pub mod Shapes
+pub mod Small
+pub mod Spots
+pub mod Statuses
+pub mod Stretches
+pub mod Ties
+pub mod World
