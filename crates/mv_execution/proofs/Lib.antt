@@ -1,0 +1,10 @@
+pub mod Examples
+pub mod Stores
+pub mod Operands
+pub mod Branches
+pub mod Acts
+pub mod Advances
+pub mod Steps
+pub mod Runs
+pub mod Starts
+pub mod Modules

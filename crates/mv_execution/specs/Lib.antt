@@ -1,0 +1,7 @@
+pub mod Values
+pub mod Config
+pub mod Rows
+pub mod Step
+pub mod Run
+pub mod Instance
+pub mod Fits

@@ -1,0 +1,29 @@
+//! Laws of execution, for the crates above. The functions do nothing; they carry the laws.
+ghost use Rattle.std.specs.Prelude.{List, ℕ, ◌≡◌, ◌≤◌, [], Some, None, All};
+ghost use Rattle.mv_syntax.specs.declared.types.FuncType.{FuncType};
+ghost use Rattle.mv_syntax.specs.Sections.{Parts};
+ghost use Rattle.mv_validator.specs.Types.{operands_of};
+ghost use Rattle.mv_validator.specs.Typing.{Context, func_type};
+ghost use Rattle.mv_memory.specs.Bytes.{IsByte, page_limit};
+ghost use Rattle.mv_memory.specs.Memory.{Contents, page_count};
+ghost use Rattle.mv_execution.specs.Config.{Program, Config};
+ghost use Rattle.mv_execution.specs.Instance.{program_of, new_config, with_element, with_memory};
+ghost use Rattle.mv_execution.specs.Run.{run, entered, answered, with_new_gap};
+ghost use Rattle.mv_execution.specs.Fits.{AreOf, FitsProgram, FitsConfig, RunFits, IsTypedModule, module_context};
+
+/// Typed code is never stuck (WebAssembly Core 1.0, 7.5): a run of a typed configuration stops at an imported function, at
+/// its end, by a trap or for want of fuel, never for want of an operand, of one of its type, of a local or of a label, and
+/// the configuration is typed again. So it is where a function is entered, where a call is answered by results of its type,
+/// and with another element, memory or gap.
+///
+/// A module with types begins so: its program, and its configuration before anything is entered.
+pub fn typed_code_is_never_stuck()
+    ensures program { (p : Parts) → IsTypedModule p → FitsProgram (module_context p) (program_of p) }
+    ensures begins { (p : Parts) → IsTypedModule p → FitsConfig (module_context p) (new_config p) }
+    ensures run { (m : Context) (program : Program) (fuel : ℕ) (c : Config) → FitsProgram m program → FitsConfig m c → RunFits m (run program fuel c) }
+    ensures entered { (m : Context) (program : Program) (c : Config) (x : ℕ) (t : FuncType) → FitsProgram m program → FitsConfig m c → c.waiting ≡ None → c.frames ≡ [] → func_type m x ≡ Some t → t.params ≡ [] → FitsConfig m (entered program x c) }
+    ensures answered { (m : Context) (program : Program) (c : Config) (x : ℕ) (t : FuncType) (results : List ℕ) → FitsProgram m program → FitsConfig m c → c.waiting ≡ Some x → func_type m x ≡ Some t → AreOf (operands_of t.result) results → FitsConfig m (answered program results c) }
+    ensures element { (m : Context) (c : Config) (at x : ℕ) (t : FuncType) → func_type m x ≡ Some t → FitsConfig m c → FitsConfig m (with_element at x c) }
+    ensures memory { (m : Context) (c : Config) (memory : Contents) → All IsByte memory.bytes → page_count memory ≤ page_limit → FitsConfig m c → FitsConfig m (with_memory memory c) }
+    ensures gap { (m : Context) (c : Config) → FitsConfig m c → FitsConfig m (with_new_gap c) }
+{}

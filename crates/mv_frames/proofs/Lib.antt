@@ -1,0 +1,4 @@
+pub mod Lists
+pub mod Branches
+pub mod Advances
+pub mod Plain

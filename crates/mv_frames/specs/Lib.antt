@@ -1,0 +1,4 @@
+pub mod Arity
+pub mod Blocks
+pub mod Frames
+pub mod Stores
