@@ -64,11 +64,6 @@ typed-body m t locals code (body, is, typed) k =
     let same : tree_of code ≡ body = ap (λ o. first_tree (unwrap_or o [])) is in
     subst (λ x. FitsBody m t (Some (record { locals = length locals; tree = x }))) (sym same) (locals, refl, typed, c.0.0)
 
--- What some bytes spell is sound, where constants of 64 bits are.
-abbrev pub IsWide : Instr → Type 0
-IsWide (instr.Const I64 v) = v < 2 ^ 64
-IsWide i = Unit {0}
-
 width-is : (t : ValType) (n : ℕ) → IsWidth t n → is_width t n ≡ true
 width-is I32 n (inl e) = subst (λ n. is_width I32 n ≡ true) (sym e) refl
 width-is I32 n (inr (inl e)) = subst (λ n. is_width I32 n ≡ true) (sym e) refl
@@ -78,9 +73,9 @@ width-is I64 n (inr (inl e)) = subst (λ n. is_width I64 n ≡ true) (sym e) ref
 width-is I64 n (inr (inr (inl e))) = subst (λ n. is_width I64 n ≡ true) (sym e) refl
 width-is I64 n (inr (inr (inr e))) = subst (λ n. is_width I64 n ≡ true) (sym e) refl
 
-pub spellable-sound : (i : Instr) → IsSpellable i → IsWide i → IsSound i
-spellable-sound (instr.Const I32 v) h w = h
-spellable-sound (instr.Const I64 v) h w = w
-spellable-sound (instr.Load t n signed align offset) h w = width-is t n h.width
-spellable-sound (instr.Store t n align offset) h w = width-is t n h
-spellable-sound i h w = tt
+-- what some bytes spell is sound
+pub spellable-sound : (i : Instr) → IsSpellable i → IsSound i
+spellable-sound (instr.Const t v) h = h
+spellable-sound (instr.Load t n signed align offset) h = width-is t n h.width
+spellable-sound (instr.Store t n align offset) h = width-is t n h
+spellable-sound i h = tt

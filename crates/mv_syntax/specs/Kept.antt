@@ -31,7 +31,7 @@ pub record IsLoad (t : ValType) (n : ℕ) (signed : Bool) : Type 0 where
 
 -- some bytes spell the instruction, as far as its numbers go
 abbrev pub IsSpellable : Instr → Type 0
-IsSpellable (instr.Const I32 v) = v < 2 ^ 32
+IsSpellable (instr.Const t v) = v < 2 ^ bit_width t
 IsSpellable (instr.Load t n signed align offset) = IsLoad t n signed
 IsSpellable (instr.Store t n align offset) = IsWidth t n
 IsSpellable i = Unit {0}

@@ -28,8 +28,8 @@ use Rattle.mv_syntax.specs.declared.module.Segment.{Segment}
 use Rattle.mv_syntax.specs.Form.{Form}
 use Rattle.mv_syntax.specs.FormLaws.{Chosen, Means}
 use Rattle.mv_syntax.specs.Forms.{give, ◌>>=◌, byte, means, headed, sized, many, each_of, at_most_one}
-use Rattle.mv_syntax.specs.Numbers.{last_group, s32, name, text_of}
-use Rattle.mv_syntax.specs.NumberLaws.{IsNumber, s32_law}
+use Rattle.mv_syntax.specs.Numbers.{last_group, s32, s64, name, text_of}
+use Rattle.mv_syntax.specs.NumberLaws.{IsNumber, s32_law, s64_law}
 use Rattle.mv_syntax.specs.Types.{bit_width, vector, up_to, val_type, func_type, limits, limits_from}
 use Rattle.mv_syntax.specs.Instructions.{Shape, Alone, Blocks, Indexed, Labels, Indirect, Access, Reserved, Const32, Const64, immediates, shape_at, accesses, others, access_of, other_of, comparisons, operations, compares, computes, operator_of, or_else, shape_of, instruction}
 use Rattle.mv_syntax.specs.BodyLaws.{EachSpelled}
@@ -123,6 +123,9 @@ number_fits (b ∷ rest) width n (inr h) =
 s32_fits : (text : List ℕ) (n : ℕ) → s32.spells text n → n < 2 ^ 32
 s32_fits text n s = number_fits text 32 n ((s32_law text n).0 s)
 
+s64_fits : (text : List ℕ) (n : ℕ) → s64.spells text n → n < 2 ^ 64
+s64_fits text n s = number_fits text 64 n ((s64_law text n).0 s)
+
 -- what each value of a shape's instructions keeps
 abbrev IsKept : Shape → Type 0
 IsKept (Alone i) = IsSpellable i
@@ -142,7 +145,7 @@ immediates_kept Indirect h text j s = subst IsSpellable (sym s.back_spells.back_
 immediates_kept (Access make) h text j s = subst IsSpellable (sym s.back_spells.back_spells.1) (h s.first s.back_spells.first)
 immediates_kept (Reserved i) h text j s = subst IsSpellable (sym s.back_spells.1) h
 immediates_kept Const32 h text j s = subst IsSpellable (sym s.back_spells.1) (s32_fits s.front s.first s.front_spells)
-immediates_kept Const64 h text j s = subst IsSpellable (sym s.back_spells.1) tt
+immediates_kept Const64 h text j s = subst IsSpellable (sym s.back_spells.1) (s64_fits s.front s.first s.front_spells)
 
 abbrev IsKeptRow : ℕ × Shape → Type 0
 IsKeptRow row = IsKept row.1
