@@ -5,9 +5,9 @@ use Rattle.mv_syntax.specs.declared.fault.ReadFault.{ReadFault}
 use Rattle.mv_syntax.specs.Sections.{Parts}
 use Rattle.mv_syntax.specs.Modules.{Spells, module_at}
 use Rattle.mv_syntax.specs.ModuleLaws.{module_complete}
-use Rattle.mv_machine.specs.declared.first_form.FirstForm.{FirstForm}
+use Rattle.mv_first_form.specs.declared.first_form.FirstForm.{FirstForm}
 use Rattle.mv_syntax.specs.declared.fault.ValidFault.{ValidFault}
-use Rattle.mv_machine.specs.FirstForm.{HasFirstForm, module_of}
+use Rattle.mv_first_form.specs.FirstForm.{HasFirstForm, module_of}
 use Rattle.mv_live.specs.Modules.{HasFault, IsInvalid, IsValidFile, HasNoForm}
 use Rattle.mv_live.proofs.FormLaws.{form_valid}
 use Rattle.mv_live.proofs.ModuleLaws.{one_module, valid_or_invalid}

@@ -7,8 +7,8 @@ use Rattle.mv_syntax.specs.declared.instr.Instr.TheVariants.{Call, Drop, Const}
 use Rattle.mv_syntax.specs.Tree.{Tree, done, plain}
 use Rattle.mv_validator.specs.Typing.{IsTyped, Types}
 use Rattle.mv_validator.specs.Valid.{Each, IsValid, IsTypedFunc, IsNewName, IsConstant, context_in}
-use Rattle.mv_machine.specs.declared.first_form.FirstForm.{FirstForm}
-use Rattle.mv_machine.specs.FirstForm.{module_of, body_of, form_func, form_imports, form_exports, form_segment, start_type}
+use Rattle.mv_first_form.specs.declared.first_form.FirstForm.{FirstForm}
+use Rattle.mv_first_form.specs.FirstForm.{module_of, body_of, form_func, form_imports, form_exports, form_segment, start_type}
 
 same_some : {A : Type 0} (a b : A) → Some a ≡ Some b → a ≡ b
 same_some a b e = cc

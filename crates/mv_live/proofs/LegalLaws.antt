@@ -2,9 +2,9 @@
 use Rattle.std.proofs.Common.{◌≡◌, ℕ, List, [], ◌∷◌, ◌++◌, ◌≤◌, Option, refl, sym, ap, ◌∙◌, subst, append-nil, arith}
 use Rattle.mv_calls.specs.declared.calls.Call.{Call}
 use Rattle.mv_calls.specs.declared.calls.Item.{Item}
-use Rattle.mv_machine.specs.declared.event.Event.TheVariants.{Calls}
-use Rattle.mv_machine.specs.Config.{Config}
-use Rattle.mv_machine.specs.Step.{go}
+use Rattle.mv_first_form.specs.declared.event.Event.TheVariants.{Calls}
+use Rattle.mv_first_form.specs.Config.{Config}
+use Rattle.mv_first_form.specs.Step.{go}
 use Rattle.mv_outside.specs.Causes.{Rose}
 use Rattle.mv_outside.specs.Told.{told_more, told_more-append, told_more-none}
 use Rattle.mv_live.specs.declared.log.How.{How}

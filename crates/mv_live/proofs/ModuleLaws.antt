@@ -7,13 +7,13 @@ use Rattle.mv_syntax.specs.declared.fault.ReadKind.TheVariants.{Limit}
 use Rattle.mv_syntax.specs.Form.{fault}
 use Rattle.mv_syntax.specs.Sections.{Parts}
 use Rattle.mv_syntax.specs.Modules.{Spells, module_at}
-use Rattle.mv_machine.specs.declared.first_form.FirstForm.{FirstForm}
+use Rattle.mv_first_form.specs.declared.first_form.FirstForm.{FirstForm}
 use Rattle.mv_syntax.specs.declared.fault.ValidFault.{ValidFault}
 use Rattle.mv_syntax.specs.ModuleLaws.{module_complete}
 use Rattle.mv_validator.specs.Valid.{IsValid}
 use Rattle.mv_validator.specs.Checks.{IsFirstFaultOf}
 use Rattle.mv_validator.proofs.Laws.{fault-invalid}
-use Rattle.mv_machine.specs.FirstForm.{HasFirstForm}
+use Rattle.mv_first_form.specs.FirstForm.{HasFirstForm}
 use Rattle.mv_live.specs.Modules.{HasFault, IsInvalid, IsValidFile, HasNoForm}
 use Rattle.mv_outside.specs.Files.{FileMap}
 use Rattle.mv_live.specs.declared.module.Loaded.{Loaded}

@@ -1,10 +1,10 @@
 -- The causes of each ending: what holds where it comes (docs/GUIDE.md, "Statuses").
 use Rattle.std.specs.Prelude.{◌≡◌, ℕ, List, [], ◌∷◌, ◌++◌, Option, Some, None, ◌⊎◌}
 use Rattle.mv_syntax.specs.declared.fault.ReadFault.{ReadFault}
-use Rattle.mv_machine.specs.declared.first_form.FirstForm.{FirstForm}
+use Rattle.mv_first_form.specs.declared.first_form.FirstForm.{FirstForm}
 use Rattle.mv_syntax.specs.declared.fault.ValidFault.{ValidFault}
-use Rattle.mv_machine.specs.FirstForm.{HasFirstForm}
-use Rattle.mv_machine.specs.Config.{begun}
+use Rattle.mv_first_form.specs.FirstForm.{HasFirstForm}
+use Rattle.mv_first_form.specs.Config.{begun}
 use Rattle.mv_outside.specs.Causes.{Rose}
 use Rattle.mv_outside.specs.Files.{FileMap}
 use Rattle.mv_live.specs.declared.ending.Ending.{Ending}

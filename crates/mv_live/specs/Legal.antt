@@ -2,9 +2,9 @@
 use Rattle.std.specs.Prelude.{◌≡◌, Bool, true, false, List, [], ◌∷◌}
 use Rattle.mv_calls.specs.declared.calls.Call.{Call}
 use Rattle.mv_calls.specs.declared.calls.Item.{Item}
-use Rattle.mv_machine.specs.declared.event.Event.TheVariants.{Calls, Ends}
-use Rattle.mv_machine.specs.Config.{Config}
-use Rattle.mv_machine.specs.Step.{go, after}
+use Rattle.mv_first_form.specs.declared.event.Event.TheVariants.{Calls, Ends}
+use Rattle.mv_first_form.specs.Config.{Config}
+use Rattle.mv_first_form.specs.Step.{go, after}
 use Rattle.mv_live.specs.declared.log.How.{How}
 use Rattle.mv_live.specs.declared.log.How.TheVariants.{Ended, KernelFault, Memory}
 use Rattle.mv_live.specs.declared.log.Mark.TheVariants.{End}

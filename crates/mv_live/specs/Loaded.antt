@@ -1,6 +1,6 @@
 -- What a named file is found to be.
 use Rattle.std.specs.Prelude.{◌≡◌, ℕ, List, Option, Some, None, ◌⊎◌}
-use Rattle.mv_machine.specs.FirstForm.{HasFirstForm}
+use Rattle.mv_first_form.specs.FirstForm.{HasFirstForm}
 use Rattle.mv_live.specs.Modules.{HasFault, IsInvalid, HasNoForm}
 use Rattle.mv_outside.specs.Causes.{Rose}
 use Rattle.mv_outside.specs.Files.{FileMap}

@@ -6,8 +6,8 @@ use Rattle.mv_syntax.specs.Sections.{Parts}
 use Rattle.mv_syntax.specs.Modules.{Spells, module_at}
 use Rattle.mv_validator.specs.Valid.{IsValid}
 use Rattle.mv_validator.specs.Checks.{IsFirstFaultOf}
-use Rattle.mv_machine.specs.declared.first_form.FirstForm.{FirstForm}
-use Rattle.mv_machine.specs.FirstForm.{IsFirstForm, module_of}
+use Rattle.mv_first_form.specs.declared.first_form.FirstForm.{FirstForm}
+use Rattle.mv_first_form.specs.FirstForm.{IsFirstForm, module_of}
 
 -- the bytes spell no module, and this is their first fault
 abbrev pub HasFault : List ℕ → ReadFault → Type 0

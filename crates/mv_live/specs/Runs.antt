@@ -3,8 +3,8 @@ use Rattle.std.specs.Prelude.{◌≡◌, ℕ, List, [], ◌∷◌, ◌++◌, Opt
 use Rattle.mv_calls.specs.declared.calls.Call.{Call}
 use Rattle.mv_calls.specs.declared.calls.Reply.{Reply}
 use Rattle.mv_calls.specs.declared.calls.Item.{Item}
-use Rattle.mv_machine.specs.Config.{Config}
-use Rattle.mv_machine.specs.Step.{after}
+use Rattle.mv_first_form.specs.Config.{Config}
+use Rattle.mv_first_form.specs.Step.{after}
 use Rattle.mv_outside.specs.Causes.{Rose}
 use Rattle.mv_outside.specs.Told.{told_more}
 use Rattle.mv_live.specs.Legal.{running, after_entries, AreLegal, outside_of}

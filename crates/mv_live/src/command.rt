@@ -1,7 +1,7 @@
 //! The command `run`.
 ghost use Rattle.std.specs.Prelude.{◌≡◌, ◌≤◌, [], ◌∷◌, IfOk, map, string_bytes};
-ghost use Rattle.mv_machine.specs.FirstForm.{IsFirstForm};
-ghost use Rattle.mv_machine.specs.Config.{begun};
+ghost use Rattle.mv_first_form.specs.FirstForm.{IsFirstForm};
+ghost use Rattle.mv_first_form.specs.Config.{begun};
 ghost use Rattle.mv_outside.specs.Told.{told_more};
 ghost use Rattle.mv_live.specs.Legal.{outside_of};
 ghost use Rattle.mv_live.specs.Cause.{HasCause, HasRunStatus, IsRunExact, IsEmptyLog, IsLegal};
@@ -14,7 +14,7 @@ use crate::module::{Loaded, module_at};
 use crate::run::run;
 use crate::words::path_of;
 use mv_calls::{Bytes, OutOfMemory, Texts};
-use mv_machine::{FirstForm, Machine};
+use mv_first_form::{FirstForm, Machine};
 use mv_outside::{Console, Files, Kernel, Sink};
 use std::alloc::Global;
 

@@ -4,7 +4,7 @@ ghost use Rattle.mv_syntax.specs.Modules.{Spells};
 ghost use Rattle.mv_live.specs.Loaded.{IsLoaded, IsFound};
 
 use mv_calls::{Bytes, Or, OutOfMemory};
-use mv_machine::{FirstForm, find_first_form};
+use mv_first_form::{FirstForm, find_first_form};
 use mv_outside::{Files, Found};
 use mv_reader::read_module;
 use mv_syntax::{Module, ReadFault, ValidFault};

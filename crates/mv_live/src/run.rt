@@ -1,7 +1,7 @@
 //! A run of one guest, from its start to the end of its log.
 ghost use Rattle.std.specs.Prelude.{◌≡◌, ℕ, ◌≤◌, [], None, IfSome};
-ghost use Rattle.mv_machine.specs.Config.{Config};
-ghost use Rattle.mv_machine.specs.Step.{go};
+ghost use Rattle.mv_first_form.specs.Config.{Config};
+ghost use Rattle.mv_first_form.specs.Step.{go};
 ghost use Rattle.mv_outside.specs.Causes.{Rose};
 ghost use Rattle.mv_live.specs.Legal.{MayEnd};
 ghost use Rattle.mv_live.specs.Runs.{DidCall, IsUnderWay, IsWhole};
@@ -9,7 +9,7 @@ ghost use Rattle.mv_live.specs.Runs.{DidCall, IsUnderWay, IsWhole};
 use crate::entries::Entries;
 use crate::log::{Entry, How, Log, Mark};
 use mv_calls::{Call, Item, Room};
-use mv_machine::{Event, Machine};
+use mv_first_form::{Event, Machine};
 use mv_outside::Kernel;
 use std::alloc::Global;
 

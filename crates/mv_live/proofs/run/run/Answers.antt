@@ -1,7 +1,7 @@
 use Rattle.std.proofs.Common.{◌≡◌, sym, ◌∙◌, ap, refl, arith, length}
-use Rattle.mv_machine.specs.Config.{Config}
-use Rattle.mv_machine.specs.Step.{go, after}
-use Rattle.mv_machine.proofs.Laws.{after-shorter}
+use Rattle.mv_first_form.specs.Config.{Config}
+use Rattle.mv_first_form.specs.Step.{go, after}
+use Rattle.mv_first_form.proofs.Laws.{after-shorter}
 use Rattle.mv_live.proofs.LegalLaws.{under_way_more, under_way_same, rose_before, ended_no_fault, memory_no_fault}
 use Rattle.mv_live.proofs.run.run.Goals as goal
 

@@ -1,6 +1,6 @@
 use Rattle.std.proofs.Common.{◌≡◌, ℕ, ap, arith}
-use Rattle.mv_machine.proofs.Pieces.{within_parts, joined_end, joined_more, joined_whole}
-use Rattle.mv_machine.proofs.fd_write.gathered.Goals as goal
+use Rattle.mv_first_form.proofs.Pieces.{within_parts, joined_end, joined_more, joined_whole}
+use Rattle.mv_first_form.proofs.fd_write.gathered.Goals as goal
 
 pub piece_in-requires : goal.piece_in-requires
 piece_in-requires c =

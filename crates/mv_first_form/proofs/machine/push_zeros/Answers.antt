@@ -1,7 +1,7 @@
 use Rattle.std.proofs.Common.{◌≡◌, ◌≤◌, ℕ, List, ◌++◌, length, take, replicate, ap, ◌∙◌, arith}
 use Rattle.std.proofs.lemmas.List.{take_all}
-use Rattle.mv_machine.specs.Config.{zeros}
-use Rattle.mv_machine.proofs.machine.push_zeros.Goals as goal
+use Rattle.mv_first_form.specs.Config.{zeros}
+use Rattle.mv_first_form.proofs.machine.push_zeros.Goals as goal
 
 filled : (len count more : ℕ) (items new : List ℕ) → length items ≤ len → more ≡ count → new ≡ take len items ++ replicate more 0 → new ≡ items ++ zeros count
 unfolding zeros

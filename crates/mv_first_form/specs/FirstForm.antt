@@ -10,7 +10,7 @@ use Rattle.mv_syntax.specs.declared.instr.Instr.TheVariants.{End, Call, Drop, Co
 use Rattle.mv_syntax.specs.declared.ops.ValType.TheVariants.{I32}
 use Rattle.mv_syntax.specs.Sections.{Parts}
 use Rattle.mv_syntax.specs.Modules.{Spells}
-use Rattle.mv_machine.specs.declared.first_form.FirstForm.{FirstForm}
+use Rattle.mv_first_form.specs.declared.first_form.FirstForm.{FirstForm}
 
 -- the size of a page (WebAssembly Core 1.0, 4.2.8)
 abbrev pub page_size : ℕ

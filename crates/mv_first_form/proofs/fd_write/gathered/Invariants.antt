@@ -1,7 +1,7 @@
 use Rattle.std.proofs.Common.{◌≡◌, ◌≤◌, ◌++◌, take, true, vec_len}
-use Rattle.mv_machine.specs.FdWrite.{iovecs, are_within, joined, transfer_limit}
-use Rattle.mv_machine.proofs.Pieces.{rest_of}
-use Rattle.mv_machine.proofs.fd_write.gathered.Given as goal
+use Rattle.mv_first_form.specs.FdWrite.{iovecs, are_within, joined, transfer_limit}
+use Rattle.mv_first_form.proofs.Pieces.{rest_of}
+use Rattle.mv_first_form.proofs.fd_write.gathered.Given as goal
 
 abbrev pub invariant-loop-index : goal.invariant-loop-index
 invariant-loop-index l = record {

@@ -1,13 +1,13 @@
 -- Where the machine stands, by what it keeps.
 use Rattle.std.specs.Prelude.{ℕ, List, [], ◌∷◌, Option, Some, None}
 use Rattle.mv_syntax.specs.declared.instr.Instr.{Instr}
-use Rattle.mv_machine.specs.FirstForm.{write_body, exit_body}
-use Rattle.mv_machine.specs.Config.{Config}
-use Rattle.mv_machine.specs.declared.event.Event.{Event}
-use Rattle.mv_machine.specs.declared.event.Event.TheVariants.{Calls, Ends}
-use Rattle.mv_machine.specs.declared.event.Made.{Made}
-use Rattle.mv_machine.specs.declared.event.Made.TheVariants.{Outside, Local}
-use Rattle.mv_machine.specs.declared.machine.Machine.TheInside.{Inside}
+use Rattle.mv_first_form.specs.FirstForm.{write_body, exit_body}
+use Rattle.mv_first_form.specs.Config.{Config}
+use Rattle.mv_first_form.specs.declared.event.Event.{Event}
+use Rattle.mv_first_form.specs.declared.event.Event.TheVariants.{Calls, Ends}
+use Rattle.mv_first_form.specs.declared.event.Made.{Made}
+use Rattle.mv_first_form.specs.declared.event.Made.TheVariants.{Outside, Local}
+use Rattle.mv_first_form.specs.declared.machine.Machine.TheInside.{Inside}
 
 -- none at the start, the errno behind the call
 abbrev pub operands_at : Option ℕ → List ℕ

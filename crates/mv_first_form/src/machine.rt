@@ -6,10 +6,10 @@ ghost use Rattle.std.specs.Prelude.{◌≡◌, ◌≤◌, ◌+◌, ◌++◌, IfO
 ghost use Rattle.byteorder.specs.Endian.{little_bytes};
 ghost use Rattle.mv_calls.specs.Suits.{suits_of};
 ghost use Rattle.mv_calls.specs.declared.calls.Call.{Call};
-ghost use Rattle.mv_machine.specs.FirstForm.{IsFirstForm, page_size};
-ghost use Rattle.mv_machine.specs.Config.{zeros, page_of, written, begun};
-ghost use Rattle.mv_machine.specs.Step.{go, after, outputs, errno_of};
-ghost use Rattle.mv_machine.specs.Stands.{first_event_of};
+ghost use Rattle.mv_first_form.specs.FirstForm.{IsFirstForm, page_size};
+ghost use Rattle.mv_first_form.specs.Config.{zeros, page_of, written, begun};
+ghost use Rattle.mv_first_form.specs.Step.{go, after, outputs, errno_of};
+ghost use Rattle.mv_first_form.specs.Stands.{first_event_of};
 
 use crate::event::{Event, Made};
 use crate::fd_write::decode_write;
@@ -36,11 +36,11 @@ pub struct Machine {
 }
 
 impl Model for Machine {
-    ghost use Rattle.mv_machine.specs.Config.{Config};
+    ghost use Rattle.mv_first_form.specs.Config.{Config};
 
     ghost Value = { Config };
 
-    ghost use Rattle.mv_machine.specs.Stands.{config_of};
+    ghost use Rattle.mv_first_form.specs.Stands.{config_of};
 
     ghost view = { config_of };
 }

@@ -3,7 +3,7 @@ use Rattle.std.proofs.Common.{◌≡◌, ℕ, zero, suc, ◌+◌, ◌*◌, ◌-�
 use Rattle.std.proofs.lemmas.Bool.{leb-true, cases_lt}
 use Rattle.std.proofs.lemmas.List.{take-append-le, take_all, length-take-le}
 use Rattle.std.proofs.Math.Seq.{take-append_seam, take-append-add}
-use Rattle.mv_machine.specs.FdWrite.{iovecs, iovec_at, is_within, are_within, joined, number_at, transfer_limit}
+use Rattle.mv_first_form.specs.FdWrite.{iovecs, iovec_at, is_within, are_within, joined, number_at, transfer_limit}
 
 -- the pieces from the one of this number on
 abbrev pub rest_of : List ℕ → ℕ → ℕ → ℕ → List (ℕ × ℕ)

@@ -2,8 +2,8 @@
 use Rattle.std.specs.Prelude.{ℕ, zero, suc, ◌+◌, ◌*◌, Bool, true, ◌&&◌, nat_lt, nat_le, if◌then◌else◌, List, [], ◌∷◌, ◌++◌, length, take, drop}
 use Rattle.byteorder.specs.Endian.{little_number}
 use Rattle.mv_calls.specs.declared.calls.Call.TheVariants.{Write}
-use Rattle.mv_machine.specs.declared.event.Made.{Made}
-use Rattle.mv_machine.specs.declared.event.Made.TheVariants.{Outside, Local}
+use Rattle.mv_first_form.specs.declared.event.Made.{Made}
+use Rattle.mv_first_form.specs.declared.event.Made.TheVariants.{Outside, Local}
 
 -- how many iovecs one call may have
 abbrev pub iovec_limit : ℕ

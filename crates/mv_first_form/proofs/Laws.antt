@@ -4,9 +4,9 @@ use Rattle.mv_calls.specs.declared.calls.Call.{Call}
 use Rattle.mv_calls.specs.declared.calls.Reply.{Reply}
 use Rattle.mv_syntax.specs.declared.instr.Instr.{Instr}
 use Rattle.mv_syntax.specs.declared.instr.Instr.TheVariants as instr
-use Rattle.mv_machine.specs.declared.event.Event.TheVariants.{Calls}
-use Rattle.mv_machine.specs.Config.{Config}
-use Rattle.mv_machine.specs.Step.{Called, Asks, Answers, Exits, Waiting, Met, Waits, Stops, called, operands_after, met_call, met, met_from, event_of, answered_at, go, after}
+use Rattle.mv_first_form.specs.declared.event.Event.TheVariants.{Calls}
+use Rattle.mv_first_form.specs.Config.{Config}
+use Rattle.mv_first_form.specs.Step.{Called, Asks, Answers, Exits, Waiting, Met, Waits, Stops, called, operands_after, met_call, met, met_from, event_of, answered_at, go, after}
 
 rest_of_met : Met → List Instr
 rest_of_met (Waits w) = w.rest

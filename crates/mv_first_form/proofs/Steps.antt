@@ -3,14 +3,14 @@ use Rattle.std.proofs.Common.{◌≡◌, ℕ, ◌+◌, ◌*◌, ◌≤◌, Bool,
 use Rattle.std.proofs.lemmas.Bool.{leb-true}
 use Rattle.mv_calls.specs.declared.calls.Call.{Call}
 use Rattle.mv_calls.specs.declared.calls.Reply.{Reply}
-use Rattle.mv_machine.specs.FirstForm.{write_body, exit_body}
-use Rattle.mv_machine.specs.declared.event.Event.TheVariants.{Calls, Ends}
-use Rattle.mv_machine.specs.declared.event.Made.{Made}
-use Rattle.mv_machine.specs.declared.event.Made.TheVariants.{Outside, Local}
-use Rattle.mv_machine.specs.Config.{Config}
-use Rattle.mv_machine.specs.FdWrite.{write_made, is_within, ranges_are_within, iovec_limit, are_within, iovecs}
-use Rattle.mv_machine.specs.Step.{Met, Waits, Stops, met, met_call, write_called, operands_after, event_of, answered_at, outputs, errno_of, go, after}
-use Rattle.mv_machine.specs.Stands.{operands_at, rest_at, first_event_of}
+use Rattle.mv_first_form.specs.FirstForm.{write_body, exit_body}
+use Rattle.mv_first_form.specs.declared.event.Event.TheVariants.{Calls, Ends}
+use Rattle.mv_first_form.specs.declared.event.Made.{Made}
+use Rattle.mv_first_form.specs.declared.event.Made.TheVariants.{Outside, Local}
+use Rattle.mv_first_form.specs.Config.{Config}
+use Rattle.mv_first_form.specs.FdWrite.{write_made, is_within, ranges_are_within, iovec_limit, are_within, iovecs}
+use Rattle.mv_first_form.specs.Step.{Met, Waits, Stops, met, met_call, write_called, operands_after, event_of, answered_at, outputs, errno_of, go, after}
+use Rattle.mv_first_form.specs.Stands.{operands_at, rest_at, first_event_of}
 
 -- the configuration by what the machine keeps
 abbrev pub config_at : List ℕ → ℕ → ℕ → ℕ → ℕ → ℕ → Option ℕ → Config

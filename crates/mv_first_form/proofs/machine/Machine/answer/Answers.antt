@@ -1,8 +1,8 @@
 use Rattle.std.proofs.Common.{◌≤◌, ◌+◌, ◌∙◌, ap, sym, arith, length}
-use Rattle.mv_machine.specs.Config.{Config}
-use Rattle.mv_machine.specs.Step.{go, after}
-use Rattle.mv_machine.proofs.Steps.{call_within, after_ahead, behind_is}
-use Rattle.mv_machine.proofs.machine.Machine.answer.Goals as goal
+use Rattle.mv_first_form.specs.Config.{Config}
+use Rattle.mv_first_form.specs.Step.{go, after}
+use Rattle.mv_first_form.proofs.Steps.{call_within, after_ahead, behind_is}
+use Rattle.mv_first_form.proofs.machine.Machine.answer.Goals as goal
 
 pub write_outputs-errno-requires : goal.write_outputs-errno-requires
 write_outputs-errno-requires c =

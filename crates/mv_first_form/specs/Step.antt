@@ -6,12 +6,12 @@ use Rattle.mv_calls.specs.declared.calls.Reply.{Reply}
 use Rattle.mv_calls.specs.declared.calls.Reply.TheVariants.{Errno, Count}
 use Rattle.mv_syntax.specs.declared.instr.Instr.{Instr}
 use Rattle.mv_syntax.specs.declared.instr.Instr.TheVariants as instr
-use Rattle.mv_machine.specs.declared.event.Event.{Event}
-use Rattle.mv_machine.specs.declared.event.Event.TheVariants.{Calls, Ends}
-use Rattle.mv_machine.specs.declared.event.Made.{Made}
-use Rattle.mv_machine.specs.declared.event.Made.TheVariants.{Outside, Local}
-use Rattle.mv_machine.specs.Config.{Config, written}
-use Rattle.mv_machine.specs.FdWrite.{write_made}
+use Rattle.mv_first_form.specs.declared.event.Event.{Event}
+use Rattle.mv_first_form.specs.declared.event.Event.TheVariants.{Calls, Ends}
+use Rattle.mv_first_form.specs.declared.event.Made.{Made}
+use Rattle.mv_first_form.specs.declared.event.Made.TheVariants.{Outside, Local}
+use Rattle.mv_first_form.specs.Config.{Config, written}
+use Rattle.mv_first_form.specs.FdWrite.{write_made}
 
 -- a call of the outside, the place of its result, and what is to be done once it is answered
 pub record Waiting : Type 0 where

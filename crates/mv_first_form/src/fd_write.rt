@@ -1,6 +1,6 @@
 //! `fd_write` of WASI preview 1: its arguments become a call, or an errno.
 ghost use Rattle.std.specs.Prelude.{◌≡◌, ◌≤◌, ◌+◌, ◌-◌, ◌*◌, ◌++◌, IfOk, OnOk, IsTrue, length, take, drop, vec_len};
-ghost use Rattle.mv_machine.specs.FdWrite.{number_at, iovec_at, iovecs, is_within, are_within, joined, ranges_are_within, write_made, iovec_limit, transfer_limit};
+ghost use Rattle.mv_first_form.specs.FdWrite.{number_at, iovec_at, iovecs, is_within, are_within, joined, ranges_are_within, write_made, iovec_limit, transfer_limit};
 
 use crate::event::Made;
 use byteorder::{ByteOrder, LittleEndian};

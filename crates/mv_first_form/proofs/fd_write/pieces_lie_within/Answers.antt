@@ -1,6 +1,6 @@
 use Rattle.std.proofs.Common.{◌≡◌, ℕ, ap, sym, ◌∙◌, arith}
-use Rattle.mv_machine.proofs.Pieces.{within_end, not_within, is_in}
-use Rattle.mv_machine.proofs.fd_write.pieces_lie_within.Goals as goal
+use Rattle.mv_first_form.proofs.Pieces.{within_end, not_within, is_in}
+use Rattle.mv_first_form.proofs.fd_write.pieces_lie_within.Goals as goal
 
 pub returns-then-not-lies_within : goal.returns-then-not-lies_within
 returns-then-not-lies_within c =

@@ -7,8 +7,8 @@ ghost use Rattle.mv_syntax.specs.declared.ops.ValType.{ValType};
 ghost use Rattle.mv_syntax.specs.declared.ops.ValType.TheVariants.{I32 as i32_type};
 ghost use Rattle.mv_syntax.specs.declared.instr.Instr.{Instr};
 ghost use Rattle.mv_syntax.specs.declared.instr.Instr.TheVariants.{Const as const_instr, Call as call_instr, Drop as drop_instr, End as end_instr};
-ghost use Rattle.mv_machine.specs.FirstForm.{IsFirstForm, HasFrame, module_of, form_types, write_type, exit_type, start_type, form_imports, form_exports, form_func, form_segment, wasi_import, write_body, exit_body};
-ghost use Rattle.mv_machine.specs.declared.first_form.FirstForm.{FirstForm};
+ghost use Rattle.mv_first_form.specs.FirstForm.{IsFirstForm, HasFrame, module_of, form_types, write_type, exit_type, start_type, form_imports, form_exports, form_func, form_segment, wasi_import, write_body, exit_body};
+ghost use Rattle.mv_first_form.specs.declared.first_form.FirstForm.{FirstForm};
 
 use mv_calls::{Bytes, OutOfMemory};
 use mv_syntax::{Export, Func, FuncType, Import, Instr, Limits, Module, Segment, ValType};

@@ -1,8 +1,8 @@
 -- Where a machine stands: memory, operands and the rest of its body (WebAssembly Core 1.0, 4.2).
 use Rattle.std.specs.Prelude.{ℕ, ◌+◌, ◌-◌, List, [], ◌++◌, length, take, drop, replicate}
-use Rattle.mv_machine.specs.declared.first_form.FirstForm.{FirstForm}
+use Rattle.mv_first_form.specs.declared.first_form.FirstForm.{FirstForm}
 use Rattle.mv_syntax.specs.declared.instr.Instr.{Instr}
-use Rattle.mv_machine.specs.FirstForm.{page_size, body_of}
+use Rattle.mv_first_form.specs.FirstForm.{page_size, body_of}
 
 pub record Config : Type 0 where
   pub memory : List ℕ

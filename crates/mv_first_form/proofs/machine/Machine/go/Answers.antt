@@ -1,9 +1,9 @@
 use Rattle.std.proofs.Common.{sym, ◌∙◌, ap}
-use Rattle.mv_machine.specs.declared.event.Made.{Made}
-use Rattle.mv_machine.specs.Stands.{first_event_of}
-use Rattle.mv_machine.specs.Step.{go}
-use Rattle.mv_machine.proofs.Steps.{go_behind, go_ahead}
-use Rattle.mv_machine.proofs.machine.Machine.go.Goals as goal
+use Rattle.mv_first_form.specs.declared.event.Made.{Made}
+use Rattle.mv_first_form.specs.Stands.{first_event_of}
+use Rattle.mv_first_form.specs.Step.{go}
+use Rattle.mv_first_form.proofs.Steps.{go_behind, go_ahead}
+use Rattle.mv_first_form.proofs.machine.Machine.go.Goals as goal
 
 pub returns-then-is_some-clause-event : goal.returns-then-is_some-clause-event
 returns-then-is_some-clause-event c =
