@@ -8,3 +8,4 @@ pub mod Steps
 pub mod Runs
 pub mod Starts
 pub mod Modules
+pub mod ValidModules

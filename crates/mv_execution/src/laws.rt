@@ -1,9 +1,11 @@
 //! Laws of execution, for the crates above. The functions do nothing; they carry the laws.
 ghost use Rattle.std.specs.Prelude.{List, ℕ, ◌≡◌, ◌≤◌, [], Some, None, All};
 ghost use Rattle.mv_syntax.specs.declared.types.FuncType.{FuncType};
+ghost use Rattle.mv_syntax.specs.Kept.{Keeps};
 ghost use Rattle.mv_syntax.specs.Sections.{Parts};
 ghost use Rattle.mv_validator.specs.Types.{operands_of};
 ghost use Rattle.mv_validator.specs.Typing.{Context, func_type};
+ghost use Rattle.mv_validator.specs.Valid.{IsValid};
 ghost use Rattle.mv_memory.specs.Bytes.{IsByte, page_limit};
 ghost use Rattle.mv_memory.specs.Memory.{Contents, page_count};
 ghost use Rattle.mv_execution.specs.Config.{Program, Config};
@@ -16,8 +18,10 @@ ghost use Rattle.mv_execution.specs.Fits.{AreOf, FitsProgram, FitsConfig, RunFit
 /// the configuration is typed again. So it is where a function is entered, where a call is answered by results of its type,
 /// and with another element, memory or gap.
 ///
-/// A module with types begins so: its program, and its configuration before anything is entered.
+/// A valid module has types, by what the type `Module` keeps, and a module with types begins so: its program, and its
+/// configuration before anything is entered. So a machine made from a valid module needs nothing else.
 pub fn typed_code_is_never_stuck()
+    ensures typed { (p : Parts) → Keeps p → IsValid p → IsTypedModule p }
     ensures program { (p : Parts) → IsTypedModule p → FitsProgram (module_context p) (program_of p) }
     ensures begins { (p : Parts) → IsTypedModule p → FitsConfig (module_context p) (new_config p) }
     ensures run { (m : Context) (program : Program) (fuel : ℕ) (c : Config) → FitsProgram m program → FitsConfig m c → RunFits m (run program fuel c) }
