@@ -9,3 +9,4 @@ pub mod Runs
 pub mod Starts
 pub mod Modules
 pub mod ValidModules
+pub mod Rises

@@ -1,14 +1,18 @@
 //! Laws of execution, for the crates above. The functions do nothing; they carry the laws.
 ghost use Rattle.std.specs.Prelude.{List, ℕ, ◌≡◌, ◌≤◌, [], Some, None, All};
 ghost use Rattle.mv_syntax.specs.declared.types.FuncType.{FuncType};
+ghost use Rattle.mv_syntax.specs.declared.instr.Instr.{Instr};
 ghost use Rattle.mv_syntax.specs.Kept.{Keeps};
 ghost use Rattle.mv_syntax.specs.Sections.{Parts};
+ghost use Rattle.mv_syntax.specs.Tree.{Tree};
 ghost use Rattle.mv_validator.specs.Types.{operands_of};
 ghost use Rattle.mv_validator.specs.Typing.{Context, func_type};
 ghost use Rattle.mv_validator.specs.Valid.{IsValid};
 ghost use Rattle.mv_memory.specs.Bytes.{IsByte, page_limit};
 ghost use Rattle.mv_memory.specs.Memory.{Contents, page_count};
-ghost use Rattle.mv_execution.specs.Config.{Program, Config};
+ghost use Rattle.mv_execution.specs.Config.{Program, Store, OpenBlock, Frame, Config};
+ghost use Rattle.mv_execution.specs.Rows.{Goes, acted, advanced};
+ghost use Rattle.mv_execution.specs.Rises.{leaves_more, Leaves, LeavesFirst};
 ghost use Rattle.mv_execution.specs.Instance.{program_of, new_config, with_element, with_memory};
 ghost use Rattle.mv_execution.specs.Run.{run, entered, answered, with_new_gap};
 ghost use Rattle.mv_execution.specs.Fits.{AreOf, FitsProgram, FitsConfig, RunFits, IsTypedModule, module_context};
@@ -30,4 +34,12 @@ pub fn typed_code_is_never_stuck()
     ensures element { (m : Context) (c : Config) (at x : ℕ) (t : FuncType) → func_type m x ≡ Some t → FitsConfig m c → FitsConfig m (with_element at x c) }
     ensures memory { (m : Context) (c : Config) (memory : Contents) → All IsByte memory.bytes → page_count memory ≤ page_limit → FitsConfig m c → FitsConfig m (with_memory memory c) }
     ensures gap { (m : Context) (c : Config) → FitsConfig m c → FitsConfig m (with_new_gap c) }
+{}
+
+/// An instruction that calls nothing leaves one operand more than it finds where it is a constant, or gives a local, a
+/// global or the memory's size, and else no more than it finds (WebAssembly Core 1.0, 4.4). A block begins with the operands
+/// that are there, and an `if` with one less.
+pub fn one_more_or_none()
+    ensures instruction { (i : Instr) (s : Store) (f : Frame) (next : Store × Frame) → acted i s f ≡ Goes next → Leaves (leaves_more i) f next.1 }
+    ensures first { (t : Tree) (b : OpenBlock) (outer : List OpenBlock) (s : Store) (f : Frame) (next : Store × Frame) → advanced t b outer s f ≡ Goes next → LeavesFirst t f next.1 }
 {}
