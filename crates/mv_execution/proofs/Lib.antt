@@ -10,3 +10,4 @@ pub mod Starts
 pub mod Modules
 pub mod ValidModules
 pub mod Rises
+pub mod Limits

@@ -4,5 +4,6 @@ pub mod Rows
 pub mod Rises
 pub mod Step
 pub mod Run
+pub mod Limits
 pub mod Instance
 pub mod Fits

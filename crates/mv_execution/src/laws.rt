@@ -1,5 +1,5 @@
 //! Laws of execution, for the crates above. The functions do nothing; they carry the laws.
-ghost use Rattle.std.specs.Prelude.{List, ℕ, ◌≡◌, ◌≤◌, [], Some, None, All};
+ghost use Rattle.std.specs.Prelude.{List, ℕ, ◌≡◌, ◌≤◌, [], Some, None, All, length};
 ghost use Rattle.mv_syntax.specs.declared.types.FuncType.{FuncType};
 ghost use Rattle.mv_syntax.specs.declared.instr.Instr.{Instr};
 ghost use Rattle.mv_syntax.specs.Kept.{Keeps};
@@ -13,6 +13,7 @@ ghost use Rattle.mv_memory.specs.Memory.{Contents, page_count};
 ghost use Rattle.mv_execution.specs.Config.{Program, Store, OpenBlock, Frame, Config};
 ghost use Rattle.mv_execution.specs.Rows.{Goes, acted, advanced};
 ghost use Rattle.mv_execution.specs.Rises.{leaves_more, Leaves, LeavesFirst};
+ghost use Rattle.mv_execution.specs.Limits.{result_count, IsWithinLimits};
 ghost use Rattle.mv_execution.specs.Instance.{program_of, new_config, with_element, with_memory};
 ghost use Rattle.mv_execution.specs.Run.{run, entered, answered, with_new_gap};
 ghost use Rattle.mv_execution.specs.Fits.{AreOf, FitsProgram, FitsConfig, RunFits, IsTypedModule, module_context};
@@ -42,4 +43,17 @@ pub fn typed_code_is_never_stuck()
 pub fn one_more_or_none()
     ensures instruction { (i : Instr) (s : Store) (f : Frame) (next : Store × Frame) → acted i s f ≡ Goes next → Leaves (leaves_more i) f next.1 }
     ensures first { (t : Tree) (b : OpenBlock) (outer : List OpenBlock) (s : Store) (f : Frame) (next : Store × Frame) → advanced t b outer s f ≡ Goes next → LeavesFirst t f next.1 }
+{}
+
+/// A run keeps the limits of this host: on the calls that are open, on their operands together, and on the gap; and a call
+/// that waits has place for its results. So it is before anything is entered, where a function is entered, where a call is
+/// answered with as many results as its type has, and with another element, memory or gap.
+pub fn runs_stay_within_limits()
+    ensures begins { (program : Program) (p : Parts) → IsWithinLimits program (new_config p) }
+    ensures run { (program : Program) (fuel : ℕ) (c : Config) → IsWithinLimits program c → IsWithinLimits program (run program fuel c).0 }
+    ensures entered { (program : Program) (c : Config) (x : ℕ) → IsWithinLimits program c → c.waiting ≡ None → c.frames ≡ [] → IsWithinLimits program (entered program x c) }
+    ensures answered { (program : Program) (c : Config) (x : ℕ) (results : List ℕ) → IsWithinLimits program c → c.waiting ≡ Some x → length results ≡ result_count program x → IsWithinLimits program (answered program results c) }
+    ensures element { (program : Program) (c : Config) (at x : ℕ) → IsWithinLimits program c → IsWithinLimits program (with_element at x c) }
+    ensures memory { (program : Program) (c : Config) (memory : Contents) → IsWithinLimits program c → IsWithinLimits program (with_memory memory c) }
+    ensures gap { (program : Program) (c : Config) → IsWithinLimits program c → IsWithinLimits program (with_new_gap c) }
 {}
