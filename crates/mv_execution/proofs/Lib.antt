@@ -11,3 +11,4 @@ pub mod Modules
 pub mod ValidModules
 pub mod Rises
 pub mod Limits
+pub mod Slices

@@ -76,6 +76,11 @@ run_settled program (suc fuel) c = elim (stop_of c) [
 abbrev pub run : Program → ℕ → Config → Config × Stop
 run program fuel c = run_settled program fuel (settled c)
 
+-- A run goes on where it stopped for want of fuel, with so much more of it; where it stopped for another reason it stays there.
+abbrev pub gone_on : Program → ℕ → Config × Stop → Config × Stop
+gone_on program more (c, Fuel) = run program more c
+gone_on program more (c, stop) = (c, stop)
+
 -- ---- from outside
 
 -- a call of a function without parameters, where no call is left (4.5.5)

@@ -1,5 +1,5 @@
 //! Laws of execution, for the crates above. The functions do nothing; they carry the laws.
-ghost use Rattle.std.specs.Prelude.{List, ℕ, ◌≡◌, ◌≤◌, [], Some, None, All, length};
+ghost use Rattle.std.specs.Prelude.{List, ℕ, ◌+◌, ◌≡◌, ◌≤◌, [], Some, None, All, length};
 ghost use Rattle.mv_syntax.specs.declared.types.FuncType.{FuncType};
 ghost use Rattle.mv_syntax.specs.declared.instr.Instr.{Instr};
 ghost use Rattle.mv_syntax.specs.Kept.{Keeps};
@@ -15,7 +15,7 @@ ghost use Rattle.mv_execution.specs.Rows.{Goes, acted, advanced};
 ghost use Rattle.mv_execution.specs.Rises.{leaves_more, Leaves, LeavesFirst};
 ghost use Rattle.mv_execution.specs.Limits.{result_count, IsWithinLimits};
 ghost use Rattle.mv_execution.specs.Instance.{program_of, new_config, with_element, with_memory};
-ghost use Rattle.mv_execution.specs.Run.{run, entered, answered, with_new_gap};
+ghost use Rattle.mv_execution.specs.Run.{settled, run, gone_on, entered, answered, with_new_gap};
 ghost use Rattle.mv_execution.specs.Fits.{AreOf, FitsProgram, FitsConfig, RunFits, IsTypedModule, module_context};
 
 /// Typed code is never stuck (WebAssembly Core 1.0, 7.5): a run of a typed configuration stops at an imported function, at
@@ -56,4 +56,11 @@ pub fn runs_stay_within_limits()
     ensures element { (program : Program) (c : Config) (at x : ℕ) → IsWithinLimits program c → IsWithinLimits program (with_element at x c) }
     ensures memory { (program : Program) (c : Config) (memory : Contents) → IsWithinLimits program c → IsWithinLimits program (with_memory memory c) }
     ensures gap { (program : Program) (c : Config) → IsWithinLimits program c → IsWithinLimits program (with_new_gap c) }
+{}
+
+/// A run in slices of fuel is one run: where it stops for want of fuel it goes on from there with more, and where it stops
+/// for another reason more fuel changes nothing. A configuration that is settled is settled again to itself.
+pub fn runs_go_on()
+    ensures slices { (program : Program) (a b : ℕ) (c : Config) → run program (a + b) c ≡ gone_on program b (run program a c) }
+    ensures settled { (c : Config) → settled (settled c) ≡ settled c }
 {}
