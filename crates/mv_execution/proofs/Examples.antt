@@ -1,5 +1,5 @@
 -- Small bodies, run by the definitions.
-use Rattle.std.proofs.Common.{◌≡◌, ℕ, List, [], ◌∷◌, Some, None, refl}
+use Rattle.std.proofs.Common.{◌≡◌, ℕ, List, [], ◌∷◌, ◌++◌, replicate, Some, None, refl}
 use Rattle.std.specs.Prelude.{true}
 use Rattle.mv_calls.specs.declared.trap.Trap.TheVariants as trap
 use Rattle.mv_syntax.specs.declared.ops.ValType.TheVariants.{I32, I64}
@@ -165,6 +165,18 @@ gap_spent = refl
 
 fuel_before_spent : near 49999999 1 ≡ (50000000, Fuel)
 fuel_before_spent = refl
+
+-- with so many calls below the body's
+abbrev over : ℕ → Tree → ℕ × Stop
+over calls t = let c = entered (program t) 2 start in let r = run (program t) 100 (record c { frames = c.frames ++ replicate calls (frame_of []) }) in (r.0.gap, r.1)
+
+-- a call where 1,024 are open, and where one less is
+call_at_the_limit : over 1023 (i32 5 (i32 3 (plain (Call 1) done))) ≡ (3, Trapped trap.Frames)
+call_at_the_limit = refl
+
+call_under_the_limit : over 1022 (i32 5 (i32 3 (plain (Call 1) done))) ≡ (8, Ended [])
+unfolding binary_result
+call_under_the_limit = refl
 
 -- an operand of another type is stuck
 of_another_type : outcome (plain (Const I64 4294967296) (i32 1 (add done))) 100 ≡ (2, IsStuck)
