@@ -249,14 +249,14 @@ arity-small : (t : Option ValType) → arity_of t ≤ 1
 arity-small None = omega arith
 arity-small (Some t) = omega arith
 
-pub entered-keeps : (program : Program) (c : Config) (x : ℕ) → IsWithinLimits program c → c.waiting ≡ None → c.frames ≡ [] → IsWithinLimits program (entered program x c)
-entered-keeps program c x h w none = by (slice_get program.functions x) refl
+pub entered-keeps : (program : Program) (c : Config) (x : ℕ) → IsWithinLimits program c → c.frames ≡ [] → IsWithinLimits program (entered program x c)
+entered-keeps program c x h none = by (slice_get program.functions x) refl
   where
-    inside : (function : Function) (o : Option Body) → slice_get program.functions x ≡ Some function → IsWithinLimits program (elim o as (λ z. Config) [ None ↦ record c { waiting = Some x; given = [] } | Some body ↦ record c { frames = entry_frame function.ftype body [] ∷ []; given = [] } ])
+    inside : (function : Function) (o : Option Body) → slice_get program.functions x ≡ Some function → IsWithinLimits program (elim o as (λ z. Config) [ None ↦ record c { waiting = Some x; given = [] } | Some body ↦ record c { frames = entry_frame function.ftype body [] ∷ []; waiting = None; given = [] } ])
     inside function None e =
         let empty : operand_count (without_newest (param_count program x) c.frames) ≡ 0 = subst (λ z. operand_count (without_newest (param_count program x) z) ≡ 0) (sym none) refl in
         record { frames = h.frames; operands = h.operands; gap = h.gap; place = omega (arith, empty, results-are program x function e, arity-small function.ftype.result); given = refl }
-    inside function (Some body) e = open-within program (record c { given = [] }) (entry_frame function.ftype body [] ∷ []) (omega arith) (omega arith) h.gap w refl
+    inside function (Some body) e = open-within program (record c { waiting = None; given = [] }) (entry_frame function.ftype body [] ∷ []) (omega arith) (omega arith) h.gap refl refl
 
     by : (o : Option Function) → slice_get program.functions x ≡ o → IsWithinLimits program (elim o as (λ z. Config) [ None ↦ c | Some function ↦ entered_as c x function ])
     by None e = h

@@ -95,17 +95,17 @@ answered-fits m program c x t results p h w e are =
         answered-in m (param_count program x) t results c c.frames h.store g (params-of m program p x t e) are (subst (λ z. FitsWaiting m z c.frames) same wait)
 
 -- A function without parameters, entered where no call is left.
-pub entered-fits : (m : Context) (program : Program) (c : Config) (x : ℕ) (t : FuncType) → FitsProgram m program → FitsConfig m c → c.waiting ≡ None → c.frames ≡ [] → func_type m x ≡ Some t → t.params ≡ [] → FitsConfig m (entered program x c)
-entered-fits m program c x t p h w none e params =
+pub entered-fits : (m : Context) (program : Program) (c : Config) (x : ℕ) (t : FuncType) → FitsProgram m program → FitsConfig m c → c.frames ≡ [] → func_type m x ≡ Some t → t.params ≡ [] → FitsConfig m (entered program x c)
+entered-fits m program c x t p h none e params =
     let k = p.each x t e in
     subst (λ o. FitsConfig m (elim o as (λ z. Config) [ None ↦ c | Some function ↦ entered_as c x function ])) (sym k.1) (by k.0 k.2 k.0.body (subst (λ z. FitsBody m z k.0.body) (sym k.2) k.3))
   where
-    by : (function : Function) → function.ftype ≡ t → (o : Option Body) → FitsBody m function.ftype o → FitsConfig m (elim o as (λ z. Config) [ None ↦ record c { waiting = Some x; given = [] } | Some body ↦ record c { frames = entry_frame function.ftype body [] ∷ []; given = [] } ])
+    by : (function : Function) → function.ftype ≡ t → (o : Option Body) → FitsBody m function.ftype o → FitsConfig m (elim o as (λ z. Config) [ None ↦ record c { waiting = Some x; given = [] } | Some body ↦ record c { frames = entry_frame function.ftype body [] ∷ []; waiting = None; given = [] } ])
     by function s None fits = record { store = h.store; calls = (t, e, refl, subst (λ z. FitsWaiting m t z) (sym none) params) }
     by function s (Some body) fits =
         let no-params : function.ftype.params ≡ [] = ap (λ (z : FuncType). z.params) s ∙ params in
         let frame = entry-fits m function.ftype body [] fits (subst (λ z. AreOf (reverse z) []) (sym no-params) tt) in
-        record { store = h.store; calls = subst (λ z. FitsCalls m z (entry_frame function.ftype body [] ∷ []) []) (sym w) ([], tt, (function.ftype.params ++ fits.0, function.ftype.result, frame, tt)) }
+        record { store = h.store; calls = ([], tt, (function.ftype.params ++ fits.0, function.ftype.result, frame, tt)) }
 
 -- A configuration stays typed with another memory, with a function in the table, and with a new gap.
 set-entries : (P : ℕ → Type 0) (xs : List (Option ℕ)) (at x : ℕ) → P x → ((i y : ℕ) → slice_get xs i ≡ Some (Some y) → P y) → (i y : ℕ) → slice_get (slice_set xs at (Some x)) i ≡ Some (Some y) → P y

@@ -83,11 +83,11 @@ gone_on program more (c, stop) = (c, stop)
 
 -- ---- from outside
 
--- a call of a function without parameters, where no call is left (4.5.5)
+-- A call of a function without parameters, where no call is left (4.5.5). One that waited for its answer is given up.
 abbrev pub entered_as : Config → ℕ → Function → Config
 entered_as c x function = elim function.body [
   | None ↦ record c { waiting = Some x; given = [] }
-  | Some body ↦ record c { frames = entry_frame function.ftype body [] ∷ []; given = [] }
+  | Some body ↦ record c { frames = entry_frame function.ftype body [] ∷ []; waiting = None; given = [] }
 ]
 
 abbrev pub entered : Program → ℕ → Config → Config

@@ -30,7 +30,7 @@ pub fn typed_code_is_never_stuck()
     ensures program { (p : Parts) → IsTypedModule p → FitsProgram (module_context p) (program_of p) }
     ensures begins { (p : Parts) → IsTypedModule p → FitsConfig (module_context p) (new_config p) }
     ensures run { (m : Context) (program : Program) (fuel : ℕ) (c : Config) → FitsProgram m program → FitsConfig m c → RunFits m (run program fuel c) }
-    ensures entered { (m : Context) (program : Program) (c : Config) (x : ℕ) (t : FuncType) → FitsProgram m program → FitsConfig m c → c.waiting ≡ None → c.frames ≡ [] → func_type m x ≡ Some t → t.params ≡ [] → FitsConfig m (entered program x c) }
+    ensures entered { (m : Context) (program : Program) (c : Config) (x : ℕ) (t : FuncType) → FitsProgram m program → FitsConfig m c → c.frames ≡ [] → func_type m x ≡ Some t → t.params ≡ [] → FitsConfig m (entered program x c) }
     ensures answered { (m : Context) (program : Program) (c : Config) (x : ℕ) (t : FuncType) (results : List ℕ) → FitsProgram m program → FitsConfig m c → c.waiting ≡ Some x → func_type m x ≡ Some t → AreOf (operands_of t.result) results → FitsConfig m (answered program results c) }
     ensures element { (m : Context) (c : Config) (at x : ℕ) (t : FuncType) → func_type m x ≡ Some t → FitsConfig m c → FitsConfig m (with_element at x c) }
     ensures memory { (m : Context) (c : Config) (memory : Contents) → All IsByte memory.bytes → page_count memory ≤ page_limit → FitsConfig m c → FitsConfig m (with_memory memory c) }
@@ -51,7 +51,7 @@ pub fn one_more_or_none()
 pub fn runs_stay_within_limits()
     ensures begins { (program : Program) (p : Parts) → IsWithinLimits program (new_config p) }
     ensures run { (program : Program) (fuel : ℕ) (c : Config) → IsWithinLimits program c → IsWithinLimits program (run program fuel c).0 }
-    ensures entered { (program : Program) (c : Config) (x : ℕ) → IsWithinLimits program c → c.waiting ≡ None → c.frames ≡ [] → IsWithinLimits program (entered program x c) }
+    ensures entered { (program : Program) (c : Config) (x : ℕ) → IsWithinLimits program c → c.frames ≡ [] → IsWithinLimits program (entered program x c) }
     ensures answered { (program : Program) (c : Config) (x : ℕ) (results : List ℕ) → IsWithinLimits program c → c.waiting ≡ Some x → length results ≡ result_count program x → IsWithinLimits program (answered program results c) }
     ensures element { (program : Program) (c : Config) (at x : ℕ) → IsWithinLimits program c → IsWithinLimits program (with_element at x c) }
     ensures memory { (program : Program) (c : Config) (memory : Contents) → IsWithinLimits program c → IsWithinLimits program (with_memory memory c) }
