@@ -12,3 +12,4 @@ pub mod ValidModules
 pub mod Rises
 pub mod Limits
 pub mod Slices
+pub mod Stops

@@ -1,5 +1,5 @@
 -- Runs of a configuration: how instructions are counted, and where a run stops.
-use Rattle.std.specs.Prelude.{Bool, true, false, ℕ, zero, suc, List, [], ◌∷◌, ◌++◌, Option, Some, None, length, drop, take, reverse, slice_get, nat_le, if◌then◌else◌}
+use Rattle.std.specs.Prelude.{◌≡◌, Bool, true, false, ℕ, zero, suc, List, [], ◌∷◌, ◌++◌, Option, Some, None, length, drop, take, reverse, slice_get, nat_le, if◌then◌else◌}
 use Rattle.mv_calls.specs.declared.trap.Trap.{Trap}
 use Rattle.mv_calls.specs.declared.trap.Trap.TheVariants as trap
 use Rattle.mv_syntax.specs.Tree.{Tree, done}
@@ -75,6 +75,16 @@ run_settled program (suc fuel) c = elim (stop_of c) [
 -- the run of any configuration
 abbrev pub run : Program → ℕ → Config → Config × Stop
 run program fuel c = run_settled program fuel (settled c)
+
+-- an instruction stands in front of the newest call
+abbrev pub IsOpen : Config → Type 0
+IsOpen c = (f : Frame) × (fs : List Frame) × (c.waiting ≡ None) × (c.frames ≡ f ∷ fs)
+
+-- What a run leaves, by the way it stops: a call that waits, no call with what the last one gave, or a call to go on with.
+abbrev pub StandsAt : Stop → Config → Type 0
+StandsAt (Import x) c = c.waiting ≡ Some x
+StandsAt (Ended results) c = (c.waiting ≡ None) × (c.frames ≡ []) × (c.given ≡ results)
+StandsAt stop c = IsOpen c
 
 -- A run goes on where it stopped for want of fuel, with so much more of it; where it stopped for another reason it stays there.
 abbrev pub gone_on : Program → ℕ → Config × Stop → Config × Stop

@@ -4,4 +4,7 @@
 
 mod laws;
 
-pub use laws::{one_more_or_none, runs_go_on, runs_stay_within_limits, typed_code_is_never_stuck};
+pub use laws::{
+    one_more_or_none, runs_go_on, runs_stay_within_limits, stops_are_seen,
+    typed_code_is_never_stuck,
+};

@@ -1,0 +1,5 @@
+use Rattle.mv_execution.proofs.Stops.{run-stands}
+use Rattle.mv_execution.proofs.laws.stops_are_seen.Goals as goal
+
+pub returns : goal.returns
+returns c = run-stands
