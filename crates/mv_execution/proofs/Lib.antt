@@ -13,3 +13,4 @@ pub mod Rises
 pub mod Limits
 pub mod Slices
 pub mod Stops
+pub mod Counts

@@ -1,5 +1,5 @@
 -- Runs of a configuration: how instructions are counted, and where a run stops.
-use Rattle.std.specs.Prelude.{◌≡◌, Bool, true, false, ℕ, zero, suc, List, [], ◌∷◌, ◌++◌, Option, Some, None, length, drop, take, reverse, slice_get, nat_le, if◌then◌else◌}
+use Rattle.std.specs.Prelude.{◌≡◌, ◌≤◌, ◌+◌, Bool, true, false, ℕ, zero, suc, List, [], ◌∷◌, ◌++◌, Option, Some, None, length, drop, take, reverse, slice_get, nat_le, if◌then◌else◌}
 use Rattle.mv_calls.specs.declared.trap.Trap.{Trap}
 use Rattle.mv_calls.specs.declared.trap.Trap.TheVariants as trap
 use Rattle.mv_syntax.specs.Tree.{Tree, done}
@@ -85,6 +85,11 @@ abbrev pub StandsAt : Stop → Config → Type 0
 StandsAt (Import x) c = c.waiting ≡ Some x
 StandsAt (Ended results) c = (c.waiting ≡ None) × (c.frames ≡ []) × (c.given ≡ results)
 StandsAt stop c = IsOpen c
+
+-- how far the gap rises in a run: by all of the fuel where it stops for want of it, and else by no more
+abbrev pub CountsAt : Stop → ℕ → ℕ → ℕ → Type 0
+CountsAt Fuel before fuel after = after ≡ before + fuel
+CountsAt stop before fuel after = (before ≤ after) × (after ≤ before + fuel)
 
 -- A run goes on where it stopped for want of fuel, with so much more of it; where it stopped for another reason it stays there.
 abbrev pub gone_on : Program → ℕ → Config × Stop → Config × Stop

@@ -15,7 +15,7 @@ ghost use Rattle.mv_execution.specs.Rows.{Goes, acted, advanced};
 ghost use Rattle.mv_execution.specs.Rises.{leaves_more, Leaves, LeavesFirst};
 ghost use Rattle.mv_execution.specs.Limits.{result_count, IsWithinLimits};
 ghost use Rattle.mv_execution.specs.Instance.{program_of, new_config, with_element, with_memory};
-ghost use Rattle.mv_execution.specs.Run.{settled, run, gone_on, StandsAt, entered, answered, with_new_gap};
+ghost use Rattle.mv_execution.specs.Run.{settled, run, gone_on, StandsAt, CountsAt, entered, answered, with_new_gap};
 ghost use Rattle.mv_execution.specs.Fits.{AreOf, FitsProgram, FitsConfig, RunFits, IsTypedModule, module_context};
 
 /// Typed code is never stuck (WebAssembly Core 1.0, 7.5): a run of a typed configuration stops at an imported function, at
@@ -59,9 +59,11 @@ pub fn runs_stay_within_limits()
 {}
 
 /// What a run leaves, by the way it stops: where it stops at an imported function, this one waits; where it has ended no call
-/// is left, and what the last one gave is kept; and else a call is open, and none waits.
+/// is left, and what the last one gave is kept; and else a call is open, and none waits. It stops for want of fuel only where
+/// as many instructions have counted as there was fuel, and never have more.
 pub fn stops_are_seen()
-    ensures { (program : Program) (fuel : ℕ) (c : Config) → StandsAt (run program fuel c).1 (run program fuel c).0 }
+    ensures stands { (program : Program) (fuel : ℕ) (c : Config) → StandsAt (run program fuel c).1 (run program fuel c).0 }
+    ensures counts { (program : Program) (fuel : ℕ) (c : Config) → CountsAt (run program fuel c).1 c.gap fuel (run program fuel c).0.gap }
 {}
 
 /// A run in slices of fuel is one run: where it stops for want of fuel it goes on from there with more, and where it stops
