@@ -6,3 +6,5 @@ pub mod Forms
 pub mod Names
 pub mod RulesText
 pub mod Drafts
+pub mod ItemGrammar
+pub mod Grammar
