@@ -40,7 +40,7 @@ clean_by : (b : Bool) (kind : RuleKind) (rest : Option RuleKind) → (if b then 
 clean_by true kind rest h = cc
 clean_by false kind rest h = (refl, h)
 
-clean_all : (tests : List (Bool × RuleKind)) → first_fault tests ≡ None → AllFalse tests
+pub clean_all : (tests : List (Bool × RuleKind)) → first_fault tests ≡ None → AllFalse tests
 clean_all [] h = tt
 clean_all (test ∷ tests) h = let t = clean_by test.0 test.1 (first_fault tests) h in (t.0, clean_all tests t.1)
 
@@ -48,7 +48,7 @@ or_false : (b c : Bool) → (b || c) ≡ false → c ≡ false
 or_false true c h = cc
 or_false false c h = h
 
-below : (m n : ℕ) → nat_le m n ≡ false → n < m
+pub below : (m n : ℕ) → nat_le m n ≡ false → n < m
 below m n h = grind (arith, common_steps, h)
 
 no_errnos : (right : List Pattern) → right ≡ [] → AllPass errno_counts right

@@ -5,3 +5,14 @@ pub mod PartSteps
 pub mod ErrnoCounts
 pub mod DraftSteps
 pub mod LineSteps
+pub mod GrammarFinds
+pub mod GrammarTerms
+pub mod GrammarWords
+pub mod GrammarItems
+pub mod GrammarGiven
+pub mod GrammarSteps
+pub mod GrammarPhases
+pub mod GrammarBack
+pub mod GrammarText
+pub mod GrammarReads
+pub mod GrammarLaws
