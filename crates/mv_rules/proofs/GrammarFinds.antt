@@ -1,8 +1,8 @@
 -- What is found is there: tests, numbers in a range, and the first place in a list.
-use Rattle.std.proofs.Common.{◌≡◌, ℕ, zero, suc, ◌+◌, ◌<◌, ◌≤◌, ◌&&◌, ◌||◌, Bool, true, false, cond, not, List, [], ◌∷◌, ◌++◌, length, refl, ap, sym, ◌∙◌, subst, take, drop, arith, Some, None, add-one, one-add, le-leb, leb-true}
+use Rattle.std.proofs.Common.{◌≡◌, ℕ, suc, ◌+◌, ◌<◌, ◌≤◌, ◌&&◌, ◌||◌, Bool, true, false, cond, not, List, [], ◌∷◌, ◌++◌, length, refl, ap, sym, ◌∙◌, subst, take, drop, arith, Some, None, add-one, one-add, le-leb, leb-true}
 use Rattle.std.proofs.lemmas.Grind.{common_steps}
-use Rattle.std.specs.Prelude.{Option, nat_le, nat_lt, if◌then◌else◌, ◌==◌}
-use Rattle.std.specs.List.{position, position_or_len, list_any, list_all}
+use Rattle.std.specs.Prelude.{Option, nat_le, nat_lt, if◌then◌else◌}
+use Rattle.std.specs.List.{position, position_or_len, list_any}
 use Rattle.mv_rules.specs.declared.found.Found.{Found}
 use Rattle.mv_rules.specs.declared.found.Found.TheVariants.{Other, OutOfRange, Is}
 use Rattle.mv_rules.specs.Found.{found_map, pair, only_if}

@@ -1,7 +1,7 @@
 -- The items that words spell are found in them.
-use Rattle.std.proofs.Common.{◌≡◌, ℕ, zero, suc, ◌+◌, ◌<◌, ◌≤◌, ◌&&◌, ◌||◌, Bool, true, false, not, List, [], ◌∷◌, ◌++◌, length, refl, ap, sym, ◌∙◌, subst, take, drop, arith, Some, None, codes, add-zero, zero-add, append-nil}
+use Rattle.std.proofs.Common.{◌≡◌, ℕ, ◌+◌, ◌≤◌, ◌&&◌, ◌||◌, Bool, true, false, List, [], ◌∷◌, ◌++◌, length, refl, ap, sym, ◌∙◌, subst, drop, arith, Some, codes, add-zero, zero-add, append-nil}
 use Rattle.std.specs.Prelude.{Option, if◌then◌else◌}
-use Rattle.std.specs.List.{position, list_any, list_all}
+use Rattle.std.specs.List.{list_any, list_all}
 use Rattle.std.proofs.Math.Seq.{take-append_seam, drop-append-add}
 use Rattle.mv_rules.specs.declared.rule.FdTerm.{FdTerm}
 use Rattle.mv_rules.specs.declared.rule.TimeTerm.{TimeTerm}
@@ -9,17 +9,17 @@ use Rattle.mv_rules.specs.declared.rule.Part.{Part}
 use Rattle.mv_rules.specs.declared.rule.Pattern.{Pattern}
 use Rattle.mv_rules.specs.declared.rule.Pattern.TheVariants as patterns
 use Rattle.mv_rules.specs.declared.token.Token.{Token}
-use Rattle.mv_rules.specs.declared.token.Token.TheVariants.{Plain, Quoted, Glued}
+use Rattle.mv_rules.specs.declared.token.Token.TheVariants.{Plain}
 use Rattle.mv_rules.specs.declared.verb.Verb.{Verb}
 use Rattle.mv_rules.specs.declared.verb.Verb.TheVariants as verbs
 use Rattle.mv_rules.specs.declared.found.Found.{Found}
-use Rattle.mv_rules.specs.declared.found.Found.TheVariants.{Other, OutOfRange, Is}
-use Rattle.mv_rules.specs.Found.{found_map, pair, only_if}
-use Rattle.mv_rules.specs.Forms.{number_of, fd_of, time_of, parts_of, is_word, is_lone_word, is_errno, errno_in, lone_fd, lone_time, read_form, write_form, accept_form, close_form, shutdown_form, yield_form, clock_form, random_form, form_of, item_at, item_of}
-use Rattle.mv_rules.specs.Names.{is_name, has_good_names, parts_in, fd_name_passes, time_name_passes, part_name_passes}
+use Rattle.mv_rules.specs.declared.found.Found.TheVariants.{Is}
+use Rattle.mv_rules.specs.Found.{found_map, pair}
+use Rattle.mv_rules.specs.Forms.{number_of, fd_of, time_of, parts_of, is_word, is_errno, errno_in, lone_fd, form_of, item_at, item_of}
+use Rattle.mv_rules.specs.Names.{is_name, fd_name_passes, time_name_passes, part_name_passes}
 use Rattle.mv_rules.specs.RulesText.{part_count}
-use Rattle.mv_rules.specs.ItemGrammar.{Side, Left, Right, arrow, SpellsNumber, SpellsFd, SpellsTime, SpellsBytes, SpellsErrno, SpellsItem, MayStand}
-use Rattle.mv_rules.proofs.GrammarFinds.{both_false, position_at}
+use Rattle.mv_rules.specs.ItemGrammar.{Side, Left, Right, arrow, SpellsFd, SpellsBytes, SpellsErrno, SpellsItem, MayStand}
+use Rattle.mv_rules.proofs.GrammarFinds.{position_at}
 use Rattle.mv_rules.proofs.GrammarTerms.{lengths_on, number_found, fd_found, fd_good, time_found, time_good}
 use Rattle.mv_rules.proofs.GrammarWords.{errno_word, errno_found, fd_no_errno, IsNeutral, number_neutral, fd_neutral, time_neutral, Weighs, weighs_nothing, weighs_neutral, weighs_parts, IsClean, AreUnsized, bytes_found, bytes_good, bytes_unsized, parts_no_arrow, bytes_no_errno}
 use Rattle.mv_rules.proofs.GrammarItems.{IsGood, word_of}
@@ -102,14 +102,18 @@ read_given side fd bytes words s =
     let l = lengths_on side in
     let f : IsNeutral l s.0 = fd_neutral l fd s.0 s.3 in
     record {
-      verb = verbs.Read; tokens = s.0 ∷ arrow ∷ s.1; written = s.2;
+      verb = verbs.Read;
+      tokens = s.0 ∷ arrow ∷ s.1;
+      written = s.2;
       found = item_at_found verbs.Read l (s.0 ∷ []) s.1 (patterns.Read fd bytes) (one_neutral l s.0 f)
-        (if_not (is_errno s.1) _ _ _ (bytes_no_errno side bytes s.1 s.4)
-        (ap (found_map (λ t. patterns.Read t.0 t.1)) (pair_found (fd_of s.0) (parts_of l s.1) fd bytes (fd_found fd s.0 s.3) (bytes_found side bytes s.1 s.4))));
+          (if_not (is_errno s.1) _ _ _ (bytes_no_errno side bytes s.1 s.4)
+          (ap (found_map (λ t. patterns.Read t.0 t.1)) (pair_found (fd_of s.0) (parts_of l s.1) fd bytes (fd_found fd s.0 s.3) (bytes_found side bytes s.1 s.4))));
       clean = fits l (s.0 ∷ arrow ∷ s.1) (length bytes) s.4.few (weighs_neutral l s.0 (arrow ∷ s.1) (length bytes) f (weighs_arrow l s.1 (length bytes) (weighs_bytes side bytes s.1 s.4)));
       good = record {
         names = and_true (fd_name_passes is_name (Some fd)) (list_all (part_name_passes is_name) bytes) (fd_good fd s.0 s.3) (bytes_good side bytes s.1 s.4.each);
-        order = s.4.order; unsized = bytes_unsized side bytes s.1 s.4.each };
+        order = s.4.order;
+        unsized = bytes_unsized side bytes s.1 s.4.each;
+      };
     }
 
 read_errno_given : (side : Side) (fd : FdTerm) (errno : ℕ) (words : List Token) → SpellsItem side (patterns.ReadErrno fd errno) words → IsGiven side (patterns.ReadErrno fd errno) words
@@ -117,10 +121,12 @@ read_errno_given side fd errno words s =
     let l = lengths_on side in
     let f : IsNeutral l s.0 = fd_neutral l fd s.0 s.3 in
     record {
-      verb = verbs.Read; tokens = s.0 ∷ arrow ∷ s.1; written = s.2;
+      verb = verbs.Read;
+      tokens = s.0 ∷ arrow ∷ s.1;
+      written = s.2;
       found = item_at_found verbs.Read l (s.0 ∷ []) s.1 (patterns.ReadErrno fd errno) (one_neutral l s.0 f)
-        (if_so (is_errno s.1) _ _ _ (errno_word errno s.1 s.4)
-        (ap (found_map (λ t. patterns.ReadErrno t.0 t.1)) (pair_found (fd_of s.0) (errno_in s.1) fd errno (fd_found fd s.0 s.3) (errno_found errno s.1 s.4))));
+          (if_so (is_errno s.1) _ _ _ (errno_word errno s.1 s.4)
+          (ap (found_map (λ t. patterns.ReadErrno t.0 t.1)) (pair_found (fd_of s.0) (errno_in s.1) fd errno (fd_found fd s.0 s.3) (errno_found errno s.1 s.4))));
       clean = fits l (s.0 ∷ arrow ∷ s.1) 0 (omega arith) (weighs_neutral l s.0 (arrow ∷ s.1) 0 f (weighs_arrow l s.1 0 (weighs_errno l errno s.1 s.4)));
       good = record { names = and_true (fd_name_passes is_name (Some fd)) true (fd_good fd s.0 s.3) refl; order = order_none side; unsized = no_parts side };
     }
@@ -143,13 +149,17 @@ write_given side fd bytes words s =
     let l = lengths_on side in
     let whole = pair_found (fd_of s.0) (parts_of l s.1) fd bytes (fd_found fd s.0 s.3) (bytes_found side bytes s.1 s.4) in
     record {
-      verb = verbs.Write; tokens = s.0 ∷ (s.1 ++ (arrow ∷ Plain (codes "all") ∷ [])); written = s.2;
+      verb = verbs.Write;
+      tokens = s.0 ∷ (s.1 ++ (arrow ∷ Plain (codes "all") ∷ []));
+      written = s.2;
       found = item_at_found verbs.Write l (s.0 ∷ s.1) (Plain (codes "all") ∷ []) (patterns.Write fd bytes) (no_arrow_before side fd bytes s.0 s.1 s.3 s.4)
-        (ap (found_map (λ t. patterns.Write t.0 t.1)) whole);
+          (ap (found_map (λ t. patterns.Write t.0 t.1)) whole);
       clean = bytes_before side fd bytes s.0 s.1 (arrow ∷ Plain (codes "all") ∷ []) s.3 s.4 (weighs_word l (Plain (codes "all")) (record { part = refl; clean = refl; arrow = refl }));
       good = record {
         names = and_true (fd_name_passes is_name (Some fd)) (list_all (part_name_passes is_name) bytes) (fd_good fd s.0 s.3) (bytes_good side bytes s.1 s.4.each);
-        order = s.4.order; unsized = bytes_unsized side bytes s.1 s.4.each };
+        order = s.4.order;
+        unsized = bytes_unsized side bytes s.1 s.4.each;
+      };
     }
 
 write_errno_given : (side : Side) (fd : FdTerm) (bytes : List Part) (errno : ℕ) (words : List Token) → SpellsItem side (patterns.WriteErrno fd bytes errno) words → IsGiven side (patterns.WriteErrno fd bytes errno) words
@@ -157,14 +167,18 @@ write_errno_given side fd bytes errno words s =
     let l = lengths_on side in
     let whole = pair_found (fd_of s.0) (parts_of l s.1) fd bytes (fd_found fd s.0 s.4) (bytes_found side bytes s.1 s.5) in
     record {
-      verb = verbs.Write; tokens = s.0 ∷ (s.1 ++ (arrow ∷ s.2)); written = s.3;
+      verb = verbs.Write;
+      tokens = s.0 ∷ (s.1 ++ (arrow ∷ s.2));
+      written = s.3;
       found = item_at_found verbs.Write l (s.0 ∷ s.1) s.2 (patterns.WriteErrno fd bytes errno) (no_arrow_before side fd bytes s.0 s.1 s.4 s.5)
-        (if_so (is_errno s.2) _ _ _ (errno_word errno s.2 s.6)
-        (ap (found_map (λ t. patterns.WriteErrno t.0.0 t.0.1 t.1)) (pair_found (pair (fd_of s.0) (parts_of l s.1)) (errno_in s.2) (fd, bytes) errno whole (errno_found errno s.2 s.6))));
+          (if_so (is_errno s.2) _ _ _ (errno_word errno s.2 s.6)
+          (ap (found_map (λ t. patterns.WriteErrno t.0.0 t.0.1 t.1)) (pair_found (pair (fd_of s.0) (parts_of l s.1)) (errno_in s.2) (fd, bytes) errno whole (errno_found errno s.2 s.6))));
       clean = bytes_before side fd bytes s.0 s.1 (arrow ∷ s.2) s.4 s.5 (weighs_arrow l s.2 0 (weighs_errno l errno s.2 s.6));
       good = record {
         names = and_true (fd_name_passes is_name (Some fd)) (list_all (part_name_passes is_name) bytes) (fd_good fd s.0 s.4) (bytes_good side bytes s.1 s.5.each);
-        order = s.5.order; unsized = bytes_unsized side bytes s.1 s.5.each };
+        order = s.5.order;
+        unsized = bytes_unsized side bytes s.1 s.5.each;
+      };
     }
 
 accept_given : (side : Side) (listener : FdTerm) (flags : ℕ) (made : FdTerm) (words : List Token) → SpellsItem side (patterns.Accept listener flags made) words → IsGiven side (patterns.Accept listener flags made) words
@@ -175,14 +189,18 @@ accept_given side listener flags made words s =
     let m : IsNeutral l s.2 = fd_neutral l made s.2 s.6 in
     let whole = pair_found (fd_of s.0) (number_of 0 65535 s.1) listener flags (fd_found listener s.0 s.4) (number_found 0 65535 flags s.1 s.5) in
     record {
-      verb = verbs.Accept; tokens = s.0 ∷ s.1 ∷ arrow ∷ s.2 ∷ []; written = s.3;
+      verb = verbs.Accept;
+      tokens = s.0 ∷ s.1 ∷ arrow ∷ s.2 ∷ [];
+      written = s.3;
       found = item_at_found verbs.Accept l (s.0 ∷ s.1 ∷ []) (s.2 ∷ []) (patterns.Accept listener flags made) (two_neutral l s.0 s.1 f k)
-        (if_not (is_errno (s.2 ∷ [])) _ _ _ (fd_no_errno made s.2 s.6)
-        (ap (found_map (λ t. patterns.Accept t.0.0 t.0.1 t.1)) (pair_found (pair (fd_of s.0) (number_of 0 65535 s.1)) (lone_fd (s.2 ∷ [])) (listener, flags) made whole (fd_found made s.2 s.6))));
+          (if_not (is_errno (s.2 ∷ [])) _ _ _ (fd_no_errno made s.2 s.6)
+          (ap (found_map (λ t. patterns.Accept t.0.0 t.0.1 t.1)) (pair_found (pair (fd_of s.0) (number_of 0 65535 s.1)) (lone_fd (s.2 ∷ [])) (listener, flags) made whole (fd_found made s.2 s.6))));
       clean = fits l (s.0 ∷ s.1 ∷ arrow ∷ s.2 ∷ []) 0 (omega arith) (weighs_neutral l s.0 (s.1 ∷ arrow ∷ s.2 ∷ []) 0 f (weighs_neutral l s.1 (arrow ∷ s.2 ∷ []) 0 k (weighs_word l s.2 m)));
       good = record {
         names = and_true (fd_name_passes is_name (Some listener)) (fd_name_passes is_name (Some made) && true) (fd_good listener s.0 s.4) (and_true (fd_name_passes is_name (Some made)) true (fd_good made s.2 s.6) refl);
-        order = order_none side; unsized = no_parts side };
+        order = order_none side;
+        unsized = no_parts side;
+      };
     }
 
 accept_errno_given : (side : Side) (listener : FdTerm) (flags errno : ℕ) (words : List Token) → SpellsItem side (patterns.AcceptErrno listener flags errno) words → IsGiven side (patterns.AcceptErrno listener flags errno) words
@@ -192,10 +210,12 @@ accept_errno_given side listener flags errno words s =
     let k : IsNeutral l s.1 = number_neutral l 0 65535 flags s.1 s.5 in
     let whole = pair_found (fd_of s.0) (number_of 0 65535 s.1) listener flags (fd_found listener s.0 s.4) (number_found 0 65535 flags s.1 s.5) in
     record {
-      verb = verbs.Accept; tokens = s.0 ∷ s.1 ∷ arrow ∷ s.2; written = s.3;
+      verb = verbs.Accept;
+      tokens = s.0 ∷ s.1 ∷ arrow ∷ s.2;
+      written = s.3;
       found = item_at_found verbs.Accept l (s.0 ∷ s.1 ∷ []) s.2 (patterns.AcceptErrno listener flags errno) (two_neutral l s.0 s.1 f k)
-        (if_so (is_errno s.2) _ _ _ (errno_word errno s.2 s.6)
-        (ap (found_map (λ t. patterns.AcceptErrno t.0.0 t.0.1 t.1)) (pair_found (pair (fd_of s.0) (number_of 0 65535 s.1)) (errno_in s.2) (listener, flags) errno whole (errno_found errno s.2 s.6))));
+          (if_so (is_errno s.2) _ _ _ (errno_word errno s.2 s.6)
+          (ap (found_map (λ t. patterns.AcceptErrno t.0.0 t.0.1 t.1)) (pair_found (pair (fd_of s.0) (number_of 0 65535 s.1)) (errno_in s.2) (listener, flags) errno whole (errno_found errno s.2 s.6))));
       clean = fits l (s.0 ∷ s.1 ∷ arrow ∷ s.2) 0 (omega arith) (weighs_neutral l s.0 (s.1 ∷ arrow ∷ s.2) 0 f (weighs_neutral l s.1 (arrow ∷ s.2) 0 k (weighs_arrow l s.2 0 (weighs_errno l errno s.2 s.6))));
       good = record { names = and_true (fd_name_passes is_name (Some listener)) true (fd_good listener s.0 s.4) refl; order = order_none side; unsized = no_parts side };
     }
@@ -205,9 +225,11 @@ close_given side fd words s =
     let l = lengths_on side in
     let f : IsNeutral l s.0 = fd_neutral l fd s.0 s.2 in
     record {
-      verb = verbs.Close; tokens = s.0 ∷ arrow ∷ Plain (codes "done") ∷ []; written = s.1;
+      verb = verbs.Close;
+      tokens = s.0 ∷ arrow ∷ Plain (codes "done") ∷ [];
+      written = s.1;
       found = item_at_found verbs.Close l (s.0 ∷ []) (Plain (codes "done") ∷ []) (patterns.Close fd) (one_neutral l s.0 f)
-        (ap (found_map patterns.Close) (fd_found fd s.0 s.2));
+          (ap (found_map patterns.Close) (fd_found fd s.0 s.2));
       clean = fits l (s.0 ∷ arrow ∷ Plain (codes "done") ∷ []) 0 (omega arith) (weighs_neutral l s.0 (arrow ∷ Plain (codes "done") ∷ []) 0 f (weighs_word l (Plain (codes "done")) (record { part = refl; clean = refl; arrow = refl })));
       good = record { names = and_true (fd_name_passes is_name (Some fd)) true (fd_good fd s.0 s.2) refl; order = order_none side; unsized = no_parts side };
     }
@@ -217,10 +239,12 @@ close_errno_given side fd errno words s =
     let l = lengths_on side in
     let f : IsNeutral l s.0 = fd_neutral l fd s.0 s.3 in
     record {
-      verb = verbs.Close; tokens = s.0 ∷ arrow ∷ s.1; written = s.2;
+      verb = verbs.Close;
+      tokens = s.0 ∷ arrow ∷ s.1;
+      written = s.2;
       found = item_at_found verbs.Close l (s.0 ∷ []) s.1 (patterns.CloseErrno fd errno) (one_neutral l s.0 f)
-        (if_so (is_errno s.1) _ _ _ (errno_word errno s.1 s.4)
-        (ap (found_map (λ t. patterns.CloseErrno t.0 t.1)) (pair_found (fd_of s.0) (errno_in s.1) fd errno (fd_found fd s.0 s.3) (errno_found errno s.1 s.4))));
+          (if_so (is_errno s.1) _ _ _ (errno_word errno s.1 s.4)
+          (ap (found_map (λ t. patterns.CloseErrno t.0 t.1)) (pair_found (fd_of s.0) (errno_in s.1) fd errno (fd_found fd s.0 s.3) (errno_found errno s.1 s.4))));
       clean = fits l (s.0 ∷ arrow ∷ s.1) 0 (omega arith) (weighs_neutral l s.0 (arrow ∷ s.1) 0 f (weighs_arrow l s.1 0 (weighs_errno l errno s.1 s.4)));
       good = record { names = and_true (fd_name_passes is_name (Some fd)) true (fd_good fd s.0 s.3) refl; order = order_none side; unsized = no_parts side };
     }
@@ -231,11 +255,13 @@ shutdown_given side fd how words s =
     let f : IsNeutral l s.0 = fd_neutral l fd s.0 s.3 in
     let h : IsNeutral l s.1 = number_neutral l 1 3 how s.1 s.4 in
     record {
-      verb = verbs.Shutdown; tokens = s.0 ∷ s.1 ∷ arrow ∷ Plain (codes "done") ∷ []; written = s.2;
+      verb = verbs.Shutdown;
+      tokens = s.0 ∷ s.1 ∷ arrow ∷ Plain (codes "done") ∷ [];
+      written = s.2;
       found = item_at_found verbs.Shutdown l (s.0 ∷ s.1 ∷ []) (Plain (codes "done") ∷ []) (patterns.Shutdown fd how) (two_neutral l s.0 s.1 f h)
-        (ap (found_map (λ t. patterns.Shutdown t.0 t.1)) (pair_found (fd_of s.0) (number_of 1 3 s.1) fd how (fd_found fd s.0 s.3) (number_found 1 3 how s.1 s.4)));
+          (ap (found_map (λ t. patterns.Shutdown t.0 t.1)) (pair_found (fd_of s.0) (number_of 1 3 s.1) fd how (fd_found fd s.0 s.3) (number_found 1 3 how s.1 s.4)));
       clean = fits l (s.0 ∷ s.1 ∷ arrow ∷ Plain (codes "done") ∷ []) 0 (omega arith) (weighs_neutral l s.0 (s.1 ∷ arrow ∷ Plain (codes "done") ∷ []) 0 f
-        (weighs_neutral l s.1 (arrow ∷ Plain (codes "done") ∷ []) 0 h (weighs_word l (Plain (codes "done")) (record { part = refl; clean = refl; arrow = refl }))));
+          (weighs_neutral l s.1 (arrow ∷ Plain (codes "done") ∷ []) 0 h (weighs_word l (Plain (codes "done")) (record { part = refl; clean = refl; arrow = refl }))));
       good = record { names = and_true (fd_name_passes is_name (Some fd)) true (fd_good fd s.0 s.3) refl; order = order_none side; unsized = no_parts side };
     }
 
@@ -246,10 +272,12 @@ shutdown_errno_given side fd how errno words s =
     let h : IsNeutral l s.1 = number_neutral l 1 3 how s.1 s.5 in
     let whole = pair_found (fd_of s.0) (number_of 1 3 s.1) fd how (fd_found fd s.0 s.4) (number_found 1 3 how s.1 s.5) in
     record {
-      verb = verbs.Shutdown; tokens = s.0 ∷ s.1 ∷ arrow ∷ s.2; written = s.3;
+      verb = verbs.Shutdown;
+      tokens = s.0 ∷ s.1 ∷ arrow ∷ s.2;
+      written = s.3;
       found = item_at_found verbs.Shutdown l (s.0 ∷ s.1 ∷ []) s.2 (patterns.ShutdownErrno fd how errno) (two_neutral l s.0 s.1 f h)
-        (if_so (is_errno s.2) _ _ _ (errno_word errno s.2 s.6)
-        (ap (found_map (λ t. patterns.ShutdownErrno t.0.0 t.0.1 t.1)) (pair_found (pair (fd_of s.0) (number_of 1 3 s.1)) (errno_in s.2) (fd, how) errno whole (errno_found errno s.2 s.6))));
+          (if_so (is_errno s.2) _ _ _ (errno_word errno s.2 s.6)
+          (ap (found_map (λ t. patterns.ShutdownErrno t.0.0 t.0.1 t.1)) (pair_found (pair (fd_of s.0) (number_of 1 3 s.1)) (errno_in s.2) (fd, how) errno whole (errno_found errno s.2 s.6))));
       clean = fits l (s.0 ∷ s.1 ∷ arrow ∷ s.2) 0 (omega arith) (weighs_neutral l s.0 (s.1 ∷ arrow ∷ s.2) 0 f (weighs_neutral l s.1 (arrow ∷ s.2) 0 h (weighs_arrow l s.2 0 (weighs_errno l errno s.2 s.6))));
       good = record { names = and_true (fd_name_passes is_name (Some fd)) true (fd_good fd s.0 s.4) refl; order = order_none side; unsized = no_parts side };
     }
@@ -258,7 +286,9 @@ yield_given : (side : Side) (words : List Token) → SpellsItem side patterns.Yi
 yield_given side words s =
     let l = lengths_on side in
     record {
-      verb = verbs.Yield; tokens = arrow ∷ Plain (codes "done") ∷ []; written = s;
+      verb = verbs.Yield;
+      tokens = arrow ∷ Plain (codes "done") ∷ [];
+      written = s;
       found = item_at_found verbs.Yield l [] (Plain (codes "done") ∷ []) patterns.Yield refl refl;
       clean = fits l (arrow ∷ Plain (codes "done") ∷ []) 0 (omega arith) (weighs_word l (Plain (codes "done")) (record { part = refl; clean = refl; arrow = refl }));
       good = record { names = refl; order = order_none side; unsized = no_parts side };
@@ -269,9 +299,11 @@ clock_given side id time words s =
     let l = lengths_on side in
     let i : IsNeutral l s.0 = number_neutral l 0 1 id s.0 s.3 in
     record {
-      verb = verbs.Clock; tokens = s.0 ∷ arrow ∷ s.1 ∷ []; written = s.2;
+      verb = verbs.Clock;
+      tokens = s.0 ∷ arrow ∷ s.1 ∷ [];
+      written = s.2;
       found = item_at_found verbs.Clock l (s.0 ∷ []) (s.1 ∷ []) (patterns.Clock id time) (one_neutral l s.0 i)
-        (ap (found_map (λ t. patterns.Clock t.0 t.1)) (pair_found (number_of 0 1 s.0) (time_of s.1) id time (number_found 0 1 id s.0 s.3) (time_found time s.1 s.4)));
+          (ap (found_map (λ t. patterns.Clock t.0 t.1)) (pair_found (number_of 0 1 s.0) (time_of s.1) id time (number_found 0 1 id s.0 s.3) (time_found time s.1 s.4)));
       clean = fits l (s.0 ∷ arrow ∷ s.1 ∷ []) 0 (omega arith) (weighs_neutral l s.0 (arrow ∷ s.1 ∷ []) 0 i (weighs_word l s.1 (time_neutral l time s.1 s.4)));
       good = record { names = and_true (time_name_passes is_name (Some time)) true (time_good time s.1 s.4) refl; order = order_none side; unsized = no_parts side };
     }
@@ -280,7 +312,9 @@ random_given : (side : Side) (bytes : List Part) (words : List Token) → Spells
 random_given side bytes words s =
     let l = lengths_on side in
     record {
-      verb = verbs.Random; tokens = arrow ∷ s.0; written = s.1;
+      verb = verbs.Random;
+      tokens = arrow ∷ s.0;
+      written = s.1;
       found = item_at_found verbs.Random l [] s.0 (patterns.Random bytes) refl (ap (found_map patterns.Random) (bytes_found side bytes s.0 s.2));
       clean = fits l (arrow ∷ s.0) (length bytes) s.2.few (weighs_arrow l s.0 (length bytes) (weighs_bytes side bytes s.0 s.2));
       good = record { names = bytes_good side bytes s.0 s.2.each; order = s.2.order; unsized = bytes_unsized side bytes s.0 s.2.each };

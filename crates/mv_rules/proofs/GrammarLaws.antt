@@ -1,5 +1,5 @@
 -- A file's rules are those that it spells, and its first fault is at its first faulty line.
-use Rattle.std.proofs.Common.{◌≡◌, ◌⊎◌, ◌↔◌, inl, inr, ℕ, zero, suc, ◌+◌, ◌<◌, ◌≤◌, Bool, true, false, List, [], ◌∷◌, ◌++◌, length, refl, ap, sym, ◌∙◌, subst, arith, append_assoc, append-nil, length-append, Some, None, codes}
+use Rattle.std.proofs.Common.{◌≡◌, ◌⊎◌, ◌↔◌, inl, inr, ℕ, ◌+◌, ◌<◌, ◌≤◌, Bool, true, false, List, [], ◌∷◌, ◌++◌, length, refl, ap, sym, ◌∙◌, subst, arith, append_assoc, append-nil, length-append, Some, None, codes}
 use Rattle.std.proofs.lemmas.Grind.{common_steps}
 use Rattle.std.proofs.lemmas.Slice.Eq.{bytes_eq-Decides}
 use Rattle.std.specs.Prelude.{Option, Result, Ok, Err, nat_lt, if◌then◌else◌}
@@ -10,19 +10,14 @@ use Rattle.mv_rules.specs.declared.rule.Rule.{Rule}
 use Rattle.mv_rules.specs.declared.fault.RuleFault.{RuleFault}
 use Rattle.mv_rules.specs.declared.fault.RuleKind.{RuleKind}
 use Rattle.mv_rules.specs.declared.fault.RuleKind.TheVariants as kinds
-use Rattle.mv_rules.specs.declared.line.Line.{Line}
 use Rattle.mv_rules.specs.declared.reading.Version.{Version}
 use Rattle.mv_rules.specs.declared.reading.Version.TheVariants.{First, Second}
 use Rattle.mv_rules.specs.declared.reading.Phase.{Phase}
 use Rattle.mv_rules.specs.declared.reading.Phase.TheVariants.{Outside, InLeft, InRight}
 use Rattle.mv_rules.specs.declared.reading.Reading.{Reading}
-use Rattle.mv_rules.specs.declared.token.Token.{Token}
-use Rattle.mv_rules.specs.declared.token.Token.TheVariants.{Plain}
-use Rattle.mv_rules.specs.Drafts.{IsDraft}
 use Rattle.mv_rules.specs.Words.{words_of}
-use Rattle.mv_rules.specs.RulesText.{and_then, at_end, begun, fault_at, faults_on, first_fault, after_line, unless, line_of, lines_of, lengths_stand, read_line, read_lines, read_words, read_body, read_file, rules_in, unread, version_of}
-use Rattle.mv_rules.specs.Grammar.{SpellsLeftItem, SpellsBody, header, HasHeader, Spells, CanGoOn, CannotGoOn, StopsAt, EndsEarly, IsFirstFaultyLine}
-use Rattle.mv_rules.proofs.DraftSteps.{draft_read}
+use Rattle.mv_rules.specs.RulesText.{and_then, at_end, fault_at, faults_on, first_fault, after_line, unless, line_of, lines_of, lengths_stand, read_line, read_lines, read_body, read_file, rules_in, unread, version_of}
+use Rattle.mv_rules.specs.Grammar.{SpellsLeftItem, header, HasHeader, Spells, CanGoOn, CannotGoOn, StopsAt, EndsEarly, IsFirstFaultyLine}
 use Rattle.mv_rules.proofs.GrammarSteps.{leaves_given}
 use Rattle.mv_rules.proofs.GrammarPhases.{reading_of, Step}
 use Rattle.mv_rules.proofs.GrammarBack.{step_given}
@@ -67,8 +62,11 @@ spells_body : (text line : List ℕ) (body : List (List ℕ)) (version : Option 
 spells_body text line body None rules size lines named is = cc
 spells_body text line body (Some version) rules size lines named is =
     record {
-      version = version; body = body; header = record { size = size; lines = lines ∙ ap (λ (k : List ℕ). k ∷ body) named };
-      spelled = body_is version body rules is }
+      version = version;
+      body = body;
+      header = record { size = size; lines = lines ∙ ap (λ (k : List ℕ). k ∷ body) named };
+      spelled = body_is version body rules is;
+    }
 
 spells_file : (text : List ℕ) (lines : List (List ℕ)) (rules : List Rule) → length text ≤ 65536 → lines_of text ≡ lines → read_file lines ≡ Ok rules → Spells text rules
 spells_file text [] rules size e is = cc
@@ -115,7 +113,7 @@ one_more : (version : Version) (rules : List Rule) (phase : Phase) (at : ℕ) (l
 one_more version rules phase at line next s c =
     let l = lengths_stand version phase in
     let is : read_line version (reading_of rules phase) at line ≡ Ok next =
-        leaves_given (reading_of rules phase) at l (words_of line) (line_of version l (words_of line)) next (step_given version rules phase at (words_of line) next s) in
+    leaves_given (reading_of rules phase) at l (words_of line) (line_of version l (words_of line)) next (step_given version rules phase at (words_of line) next s) in
     record { more = line ∷ c.more; all = c.all; is = ap (λ (k : Result Reading RuleFault). and_then k (λ n. read_lines version n (at + 1) c.more)) is ∙ c.is }
 
 ended_completes : (version : Version) (rules : List Rule) (at : ℕ) → Completes version (reading_of rules Outside) at
@@ -137,8 +135,11 @@ left_completes version rules rule at [] e =
     let some : 1 ≤ length (rule.left ++ Yield ∷ []) = rw length-append (omega arith) in
     one_more version rules (InLeft rule) at (codes "yield -> done") (reading_of rules (InLeft (record rule { left = rule.left ++ Yield ∷ [] })))
     (inr (inl (record {
-      item = Yield; spelled = subst (λ (k : List Pattern). SpellsLeftItem k Yield (words_of (codes "yield -> done"))) (sym e) yield_item;
-      room = subst (λ (k : List Pattern). length k < 8) (sym e) (omega arith); after = refl })))
+      item = Yield;
+      spelled = subst (λ (k : List Pattern). SpellsLeftItem k Yield (words_of (codes "yield -> done"))) (sym e) yield_item;
+      room = subst (λ (k : List Pattern). length k < 8) (sym e) (omega arith);
+      after = refl;
+    })))
     (turn_completes version rules (record rule { left = rule.left ++ Yield ∷ [] }) (at + 1) some)
 left_completes version rules rule at (item ∷ items) e =
     turn_completes version rules rule at (subst (λ (k : List Pattern). 1 ≤ length k) (sym e) (omega arith))
@@ -165,9 +166,9 @@ reached_more version before reading next at line r is =
     record {
       place = rw length-append (omega arith);
       goes = λ more.
-        ap (λ (k : List (List ℕ)). read_lines version unread 2 k) (append_assoc before (line ∷ []) more)
-        ∙ r.goes (line ∷ more)
-        ∙ ap (λ (k : Result Reading RuleFault). and_then k (λ n. read_lines version n (at + 1) more)) is;
+          ap (λ (k : List (List ℕ)). read_lines version unread 2 k) (append_assoc before (line ∷ []) more)
+          ∙ r.goes (line ∷ more)
+          ∙ ap (λ (k : Result Reading RuleFault). and_then k (λ n. read_lines version n (at + 1) more)) is;
     }
 
 can_go_on : (version : Version) (before : List (List ℕ)) (reading : Reading) (at : ℕ) → Reached version before reading at → CanGoOn version before
@@ -180,9 +181,9 @@ cannot_go_on : (version : Version) (before : List (List ℕ)) (reading : Reading
 cannot_go_on version before reading at line fault r is more rules s =
     let found : read_lines version unread 2 ((before ++ line ∷ []) ++ more) ≡ Ok rules = body_given version ((before ++ line ∷ []) ++ more) rules s in
     let stops : read_lines version unread 2 ((before ++ line ∷ []) ++ more) ≡ Err fault =
-        ap (λ (k : List (List ℕ)). read_lines version unread 2 k) (append_assoc before (line ∷ []) more)
-        ∙ r.goes (line ∷ more)
-        ∙ ap (λ (k : Result Reading RuleFault). and_then k (λ n. read_lines version n (at + 1) more)) is in
+    ap (λ (k : List (List ℕ)). read_lines version unread 2 k) (append_assoc before (line ∷ []) more)
+    ∙ r.goes (line ∷ more)
+    ∙ ap (λ (k : Result Reading RuleFault). and_then k (λ n. read_lines version n (at + 1) more)) is in
     cc
 
 unless_at : (at : ℕ) (found : Option RuleKind) (after : Reading) (fault : RuleFault) → unless at found after ≡ Err fault → fault.line ≡ at
@@ -212,9 +213,10 @@ ends_early version before reading at fault r is =
       place = end_at reading.rules reading.phase at fault is ∙ r.place;
       goes_on = can_go_on version before reading at r;
       stops = λ rules s.
-        let found : read_lines version unread 2 before ≡ Ok rules = body_given version before rules s in
-        let stops : read_lines version unread 2 before ≡ Err fault = ap (λ (k : List (List ℕ)). read_lines version unread 2 k) (sym whole) ∙ r.goes [] ∙ is in
-        cc })
+          let found : read_lines version unread 2 before ≡ Ok rules = body_given version before rules s in
+          let stops : read_lines version unread 2 before ≡ Err fault = ap (λ (k : List (List ℕ)). read_lines version unread 2 k) (sym whole) ∙ r.goes [] ∙ is in
+          cc;
+    })
 
 stops_by : (version : Version) (before : List (List ℕ)) (reading : Reading) (at : ℕ) (line : List ℕ) (lines : List (List ℕ)) (fault : RuleFault) → Reached version before reading at
     → (found : Result Reading RuleFault) → read_line version reading at line ≡ found
@@ -226,8 +228,14 @@ stops_by version before reading at line lines fault r (Err other) e later is =
     let same : other ≡ fault = cc in
     let here : read_line version reading at line ≡ Err fault = e ∙ ap (λ (f : RuleFault). Err f) same in
     inl (record {
-      before = before; line = line; after = lines; lines = refl; place = line_at version reading at line fault here ∙ r.place;
-      goes_on = can_go_on version before reading at r; stops = cannot_go_on version before reading at line fault r here })
+      before = before;
+      line = line;
+      after = lines;
+      lines = refl;
+      place = line_at version reading at line fault here ∙ r.place;
+      goes_on = can_go_on version before reading at r;
+      stops = cannot_go_on version before reading at line fault r here;
+    })
 
 place_in : (version : Version) (lines before : List (List ℕ)) (reading : Reading) (at : ℕ) (fault : RuleFault) → Reached version before reading at
     → read_lines version reading at lines ≡ Err fault → IsPlaceIn version (before ++ lines) fault.line
@@ -243,10 +251,13 @@ place_body : (text line : List ℕ) (body : List (List ℕ)) (version : Option V
     → read_body version body ≡ Err fault → IsFirstFaultyLine text fault.line
 place_body text line body None fault size lines named head is =
     let e : fault_at 1 kinds.Header ≡ fault = cc in
-    inl (sym (ap (λ (f : RuleFault). f.line) e), λ version other h.
-        let same : line ∷ body ≡ header version ∷ other = sym lines ∙ h.lines in
-        let first : line ≡ header version = cc in
-        let found = header_given line version first in cc)
+    inl (
+      sym (ap (λ (f : RuleFault). f.line) e),
+      λ version other h.
+          let same : line ∷ body ≡ header version ∷ other = sym lines ∙ h.lines in
+          let first : line ≡ header version = cc in
+          let found = header_given line version first in cc,
+    )
 place_body text line body (Some version) fault size lines named head is =
     inr (version, body, record { size = size; lines = lines ∙ ap (λ (k : List ℕ). k ∷ body) head }, place_in version body [] unread 2 fault (reached_start version) is)
 

@@ -1,14 +1,13 @@
 -- What a line without a fault is, by where it stands.
-use Rattle.std.proofs.Common.{◌≡◌, ◌⊎◌, inl, inr, ℕ, zero, suc, ◌+◌, ◌<◌, ◌≤◌, ◌&&◌, ◌||◌, Bool, true, false, not, List, [], ◌∷◌, ◌++◌, length, refl, ap, sym, ◌∙◌, subst, arith, Some, None, codes}
+use Rattle.std.proofs.Common.{◌≡◌, ◌⊎◌, inl, inr, ℕ, ◌<◌, ◌≤◌, ◌&&◌, Bool, true, false, not, List, [], ◌∷◌, ◌++◌, length, refl, ap, sym, ◌∙◌, subst, arith, codes}
 use Rattle.std.proofs.lemmas.Grind.{common_steps}
-use Rattle.std.specs.Prelude.{Option, Result, Ok, Err, nat_le, nat_lt, if◌then◌else◌, ◌==◌}
+use Rattle.std.specs.Prelude.{nat_le, nat_lt}
 use Rattle.std.specs.List.{list_any}
 use Rattle.mv_rules.specs.declared.rule.Pattern.{Pattern}
 use Rattle.mv_rules.specs.declared.rule.Guard.{Guard}
 use Rattle.mv_rules.specs.declared.rule.Rule.{Rule}
 use Rattle.mv_rules.specs.declared.found.Found.{Found}
 use Rattle.mv_rules.specs.declared.found.Found.TheVariants.{Other, OutOfRange, Is}
-use Rattle.mv_rules.specs.declared.line.Line.{Line}
 use Rattle.mv_rules.specs.declared.line.Line.TheVariants as lines
 use Rattle.mv_rules.specs.declared.reading.Version.{Version}
 use Rattle.mv_rules.specs.declared.reading.Version.TheVariants.{First, Second}
@@ -16,12 +15,12 @@ use Rattle.mv_rules.specs.declared.reading.Phase.{Phase}
 use Rattle.mv_rules.specs.declared.reading.Phase.TheVariants.{Outside, InLeft, InRight}
 use Rattle.mv_rules.specs.declared.reading.Reading.{Reading}
 use Rattle.mv_rules.specs.declared.token.Token.{Token}
-use Rattle.mv_rules.specs.declared.token.Token.TheVariants.{Plain, Quoted, Glued}
+use Rattle.mv_rules.specs.declared.token.Token.TheVariants.{Plain}
 use Rattle.mv_rules.specs.declared.verb.Verb.{Verb}
 use Rattle.mv_rules.specs.Found.{is_other, is_out_of_range}
-use Rattle.mv_rules.specs.Forms.{item_of, guard_of, part_of}
-use Rattle.mv_rules.specs.Names.{is_name, has_good_names, rest_is_last, parts_in, is_sized, has_again, is_all_bound, bytes_are_bound}
-use Rattle.mv_rules.specs.RulesText.{is_bad_text, begun, line_of, has_words, part_count, lengths_stand, is_full}
+use Rattle.mv_rules.specs.Forms.{item_of, guard_of}
+use Rattle.mv_rules.specs.Names.{is_name, has_good_names, rest_is_last, parts_in, is_sized, is_all_bound, bytes_are_bound}
+use Rattle.mv_rules.specs.RulesText.{begun, line_of, has_words, part_count, lengths_stand, is_full}
 use Rattle.mv_rules.specs.ItemGrammar.{Side, Left, Right, SpellsItem, SpellsGuard}
 use Rattle.mv_rules.specs.Grammar.{SpellsLeftItem, SpellsLeftGuard, SpellsRightItem}
 use Rattle.mv_rules.proofs.DraftSteps.{below}
@@ -29,7 +28,7 @@ use Rattle.mv_rules.proofs.GrammarFinds.{both_true, both_false}
 use Rattle.mv_rules.proofs.GrammarTerms.{lengths_on}
 use Rattle.mv_rules.proofs.GrammarWords.{IsClean, clean_tail}
 use Rattle.mv_rules.proofs.GrammarItems.{IsGood, word_of, item_is}
-use Rattle.mv_rules.proofs.GrammarSteps.{IsFaultless, Leaves, Cases, line_cases, guard_is}
+use Rattle.mv_rules.proofs.GrammarSteps.{IsFaultless, Leaves, line_cases, guard_is}
 
 -- ## Steps
 
@@ -148,7 +147,8 @@ left_item_is rules rule at token rest next verb more e (Is item) same l =
       spelled = record {
         spelled = subst (λ (k : List Token). SpellsItem Left item k) (sym e) (item_is Left verb item more same
             (subst (λ (k : List Token). IsClean (lengths_on Left) k) (tail_is token (Plain (word_of verb)) rest more e) (clean_tail (lengths_on Left) token rest clean)) good);
-        once = f.twice };
+        once = f.twice;
+      };
       room = below 8 (length rule.left) (both_false (nat_lt 16 (part_count (lengths_on Left) (token ∷ rest))) (nat_le 8 (length rule.left)) f.excess).1;
       after = l.after;
     }
@@ -166,7 +166,8 @@ left_guard_is version rules rule at token rest next more e second (Is guard) sam
       spelled = record {
         second = second;
         spelled = subst (λ (k : List Token). SpellsGuard guard k) (sym e) (guard_is guard more same (not_false (is_name guard.name) f.misnamed));
-        bound = not_false (bytes_are_bound rule.left guard.name) bad.0 };
+        bound = not_false (bytes_are_bound rule.left guard.name) bad.0;
+      };
       room = below 8 (length rule.guards) bad.1;
       after = l.after;
     }
@@ -205,7 +206,8 @@ right_item_is version rules rule at token rest next verb more e (Is item) same l
       spelled = record {
         spelled = subst (λ (k : List Token). SpellsItem (Right version) item k) (sym e) (item_is (Right version) verb item more same
             (subst (λ (k : List Token). IsClean (lengths_on (Right version)) k) (tail_is token (Plain (word_of verb)) rest more e) (clean_tail (lengths_on (Right version)) token rest clean)) good);
-        bound = not_false (is_all_bound rule.left item) f.unbound };
+        bound = not_false (is_all_bound rule.left item) f.unbound;
+      };
       room = below 16 (length rule.right) (both_false (nat_lt 16 (part_count (lengths_on (Right version)) (token ∷ rest))) (nat_le 16 (length rule.right)) f.excess).1;
       after = l.after;
     }

@@ -1,7 +1,6 @@
 -- The lines of the grammar are read: what is left of them, line by line, the other way.
-use Rattle.std.proofs.Common.{◌≡◌, ◌⊎◌, inl, inr, ℕ, zero, suc, ◌+◌, ◌<◌, ◌≤◌, Bool, true, false, List, [], ◌∷◌, ◌++◌, length, refl, ap, sym, ◌∙◌, subst, arith, append_assoc, append-nil, length-append, Some, None, codes}
-use Rattle.std.proofs.lemmas.Grind.{common_steps}
-use Rattle.std.specs.Prelude.{Option, Result, Ok, Err, if◌then◌else◌}
+use Rattle.std.proofs.Common.{◌≡◌, inl, inr, ℕ, ◌+◌, ◌<◌, ◌≤◌, List, [], ◌∷◌, ◌++◌, length, refl, ap, sym, ◌∙◌, subst, arith, append_assoc, append-nil, length-append, codes}
+use Rattle.std.specs.Prelude.{Result, Ok}
 use Rattle.mv_rules.specs.declared.rule.Pattern.{Pattern}
 use Rattle.mv_rules.specs.declared.rule.Guard.{Guard}
 use Rattle.mv_rules.specs.declared.rule.Rule.{Rule}
@@ -11,16 +10,15 @@ use Rattle.mv_rules.specs.declared.reading.Phase.{Phase}
 use Rattle.mv_rules.specs.declared.reading.Phase.TheVariants.{Outside, InLeft, InRight}
 use Rattle.mv_rules.specs.declared.reading.Reading.{Reading}
 use Rattle.mv_rules.specs.declared.token.Token.{Token}
-use Rattle.mv_rules.specs.declared.token.Token.TheVariants.{Plain}
 use Rattle.mv_rules.specs.Drafts.{IsDraft}
 use Rattle.mv_rules.specs.Words.{words_of}
 use Rattle.mv_rules.specs.RulesText.{and_then, at_end, begun, line_of, lengths_stand, read_line, read_lines, read_words, unread}
-use Rattle.mv_rules.specs.Grammar.{Sentence, if_words, sentences, lone, SpellsLeft, SpellsLeftItem, SpellsLeftGuard, SpellsRight, SpellsRightItem, SpellsRule, SpellsEach, SpellsBody}
+use Rattle.mv_rules.specs.Grammar.{Sentence, if_words, sentences, lone, SpellsLeft, SpellsLeftItem, SpellsLeftGuard, SpellsRight, SpellsRightItem, SpellsEach, SpellsBody}
 use Rattle.mv_rules.proofs.DraftSteps.{draft_read}
 use Rattle.mv_rules.proofs.GrammarSteps.{leaves_given}
-use Rattle.mv_rules.proofs.GrammarPhases.{reading_of, BeginsRule, TurnsRule, AddsLeft, AddsGuard, EndsRule, AddsRight, Step}
+use Rattle.mv_rules.proofs.GrammarPhases.{reading_of, Step}
 use Rattle.mv_rules.proofs.GrammarBack.{step_given, blank_given}
-use Rattle.mv_rules.proofs.GrammarText.{IsSized, OutRest, LeftRest, RightRest, with_rights, RestOf, RestAfter, sentence, joined, unchanged, IsRest, lines_are}
+use Rattle.mv_rules.proofs.GrammarText.{IsSized, LeftRest, RightRest, with_rights, RestOf, RestAfter, sentence, joined, unchanged, IsRest, lines_are}
 
 -- the first sentence is a step, and the others are left behind it
 record Back (version : Version) (rules : List Rule) (phase : Phase) (s : Sentence) (ss : List Sentence) (all : List Rule) : Type 0 where
@@ -49,18 +47,31 @@ out_by version rules s ss all (made ∷ more) each whole few =
     let to = lone r.to_at (codes "to") in
     let ends = lone r.end_at (codes "end") in
     let split : s ∷ ss ≡ lone made.line (codes "rule") ∷ (r.left_lines ++ (to ∷ (r.right_lines ++ (ends ∷ each.1)))) =
-        each.2 ∙ ap (λ (k : List Sentence). k ++ each.1) r.lines ∙ ap (λ (k : List Sentence). lone made.line (codes "rule") ∷ k) (joined r.left_lines r.right_lines each.1 to ends) in
+    each.2 ∙ ap (λ (k : List Sentence). k ++ each.1) r.lines ∙ ap (λ (k : List Sentence). lone made.line (codes "rule") ∷ k) (joined r.left_lines r.right_lines each.1 to ends) in
     let h : Heads s (lone made.line (codes "rule")) ss (r.left_lines ++ (to ∷ (r.right_lines ++ (ends ∷ each.1)))) = heads s (lone made.line (codes "rule")) ss _ split in
     record {
       next = reading_of rules (InLeft (begun s.at));
       step = record { written = ap (λ (k : Sentence). k.words) h.head; room = room_for rules more all made whole few; after = refl };
       rest = record {
-        left_lines = r.left_lines; right_lines = r.right_lines; more_lines = each.1; to_at = r.to_at; end_at = r.end_at;
-        made = made; items = made.left; guards = made.guards; more = more;
-        lines = h.tail; line = sym (ap (λ (k : Sentence). k.at) h.head); left = refl; guarded = refl;
-        spelled_left = r.left; spelled_right = r.right;
+        left_lines = r.left_lines;
+        right_lines = r.right_lines;
+        more_lines = each.1;
+        to_at = r.to_at;
+        end_at = r.end_at;
+        made = made;
+        items = made.left;
+        guards = made.guards;
+        more = more;
+        lines = h.tail;
+        line = sym (ap (λ (k : Sentence). k.at) h.head);
+        left = refl;
+        guarded = refl;
+        spelled_left = r.left;
+        spelled_right = r.right;
         sized = record { some = r.some; left_few = r.left_few; guards_few = r.guards_few; right_few = r.right_few };
-        each = each.4; whole = whole };
+        each = each.4;
+        whole = whole;
+      };
     }
 
 same_rule : (a b : Rule) → a.line ≡ b.line → a.left ≡ b.left → a.guards ≡ b.guards → a.right ≡ b.right → a ≡ b
@@ -86,10 +97,17 @@ turn_back version rules rule s ss all none r e =
       next = reading_of rules (InRight rule);
       step = inl (record { written = ap (λ (k : Sentence). k.words) h.head; some = some; after = refl });
       rest = record {
-        right_lines = r.right_lines; more_lines = r.more_lines; end_at = r.end_at; items = r.made.right; more = r.more;
-        lines = h.tail; spelled = subst (λ (k : List Pattern). SpellsRight version k r.made.right r.right_lines) left r.spelled_right;
-        sized = subst (λ (k : Rule). IsSized k) same r.sized; each = r.each;
-        whole = r.whole ∙ ap (λ (k : Rule). rules ++ (k ∷ r.more)) same };
+        right_lines = r.right_lines;
+        more_lines = r.more_lines;
+        end_at = r.end_at;
+        items = r.made.right;
+        more = r.more;
+        lines = h.tail;
+        spelled = subst (λ (k : List Pattern). SpellsRight version k r.made.right r.right_lines) left r.spelled_right;
+        sized = subst (λ (k : Rule). IsSized k) same r.sized;
+        each = r.each;
+        whole = r.whole ∙ ap (λ (k : Rule). rules ++ (k ∷ r.more)) same;
+      };
     }
 
 -- one more, where all are few
@@ -112,13 +130,31 @@ left_back version rules rule s ss all r l ls e (inl t) =
     record {
       next = reading_of rules (InLeft (record rule { left = rule.left ++ t.0 ∷ [] }));
       step = inr (inl (record {
-        item = t.0; spelled = subst (λ (k : List Token). SpellsLeftItem rule.left t.0 k) (sym (ap (λ (k : Sentence). k.words) h.head)) t.3;
-        room = one_less rule.left r.items t.1 t.0 r.made.left 8 r.left t.2 r.sized.left_few; after = refl }));
+        item = t.0;
+        spelled = subst (λ (k : List Token). SpellsLeftItem rule.left t.0 k) (sym (ap (λ (k : Sentence). k.words) h.head)) t.3;
+        room = one_less rule.left r.items t.1 t.0 r.made.left 8 r.left t.2 r.sized.left_few;
+        after = refl;
+      }));
       rest = record {
-        left_lines = ls; right_lines = r.right_lines; more_lines = r.more_lines; to_at = r.to_at; end_at = r.end_at;
-        made = r.made; items = t.1; guards = r.guards; more = r.more;
-        lines = h.tail; line = r.line; left = shifted rule.left r.items t.1 t.0 r.made.left r.left t.2; guarded = r.guarded;
-        spelled_left = t.4; spelled_right = r.spelled_right; sized = r.sized; each = r.each; whole = r.whole };
+        left_lines = ls;
+        right_lines = r.right_lines;
+        more_lines = r.more_lines;
+        to_at = r.to_at;
+        end_at = r.end_at;
+        made = r.made;
+        items = t.1;
+        guards = r.guards;
+        more = r.more;
+        lines = h.tail;
+        line = r.line;
+        left = shifted rule.left r.items t.1 t.0 r.made.left r.left t.2;
+        guarded = r.guarded;
+        spelled_left = t.4;
+        spelled_right = r.spelled_right;
+        sized = r.sized;
+        each = r.each;
+        whole = r.whole;
+      };
     }
 left_back version rules rule s ss all r l ls e (inr t) =
     let behind = ls ++ (lone r.to_at (codes "to") ∷ (r.right_lines ++ (lone r.end_at (codes "end") ∷ r.more_lines))) in
@@ -127,13 +163,31 @@ left_back version rules rule s ss all r l ls e (inr t) =
     record {
       next = reading_of rules (InLeft (record rule { guards = rule.guards ++ t.0 ∷ [] }));
       step = inr (inr (record {
-        guard = t.0; spelled = subst (λ (k : List Token). SpellsLeftGuard version rule.left t.0 k) (sym (ap (λ (k : Sentence). k.words) h.head)) t.3;
-        room = one_less rule.guards r.guards t.1 t.0 r.made.guards 8 r.guarded t.2 r.sized.guards_few; after = refl }));
+        guard = t.0;
+        spelled = subst (λ (k : List Token). SpellsLeftGuard version rule.left t.0 k) (sym (ap (λ (k : Sentence). k.words) h.head)) t.3;
+        room = one_less rule.guards r.guards t.1 t.0 r.made.guards 8 r.guarded t.2 r.sized.guards_few;
+        after = refl;
+      }));
       rest = record {
-        left_lines = ls; right_lines = r.right_lines; more_lines = r.more_lines; to_at = r.to_at; end_at = r.end_at;
-        made = r.made; items = r.items; guards = t.1; more = r.more;
-        lines = h.tail; line = r.line; left = r.left; guarded = shifted rule.guards r.guards t.1 t.0 r.made.guards r.guarded t.2;
-        spelled_left = t.4; spelled_right = r.spelled_right; sized = r.sized; each = r.each; whole = r.whole };
+        left_lines = ls;
+        right_lines = r.right_lines;
+        more_lines = r.more_lines;
+        to_at = r.to_at;
+        end_at = r.end_at;
+        made = r.made;
+        items = r.items;
+        guards = t.1;
+        more = r.more;
+        lines = h.tail;
+        line = r.line;
+        left = r.left;
+        guarded = shifted rule.guards r.guards t.1 t.0 r.made.guards r.guarded t.2;
+        spelled_left = t.4;
+        spelled_right = r.spelled_right;
+        sized = r.sized;
+        each = r.each;
+        whole = r.whole;
+      };
     }
 
 left_by : (version : Version) (rules : List Rule) (rule : Rule) (s : Sentence) (ss : List Sentence) (all : List Rule) → rule.right ≡ []
@@ -153,8 +207,10 @@ right_by version rules rule s ss all r [] [] i e spelled =
       next = reading_of (rules ++ rule ∷ []) Outside;
       step = inl (record { written = ap (λ (k : Sentence). k.words) h.head; after = refl });
       rest = record {
-        more = r.more; each = subst (λ (k : List Sentence). SpellsEach version r.more k) (sym h.tail) r.each;
-        whole = r.whole ∙ ap (λ (k : Rule). rules ++ (k ∷ r.more)) same ∙ sym (append_assoc rules (rule ∷ []) r.more) };
+        more = r.more;
+        each = subst (λ (k : List Sentence). SpellsEach version r.more k) (sym h.tail) r.each;
+        whole = r.whole ∙ ap (λ (k : Rule). rules ++ (k ∷ r.more)) same ∙ sym (append_assoc rules (rule ∷ []) r.more);
+      };
     }
 right_by version rules rule s ss all r [] (l ∷ ls) i e spelled = absurd spelled
 right_by version rules rule s ss all r (item ∷ items) [] i e spelled = absurd spelled
@@ -163,16 +219,27 @@ right_by version rules rule s ss all r (item ∷ items) (l ∷ ls) i e spelled =
     let split : s ∷ ss ≡ l ∷ behind = r.lines ∙ ap (λ (k : List Sentence). k ++ (lone r.end_at (codes "end") ∷ r.more_lines)) e in
     let h : Heads s l ss behind = heads s l ss behind split in
     let same : with_rights rule r.items ≡ record rule { right = (rule.right ++ item ∷ []) ++ items } =
-        ap (λ (k : List Pattern). record rule { right = k }) (ap (λ (k : List Pattern). rule.right ++ k) i ∙ sym (append_assoc rule.right (item ∷ []) items)) in
+    ap (λ (k : List Pattern). record rule { right = k }) (ap (λ (k : List Pattern). rule.right ++ k) i ∙ sym (append_assoc rule.right (item ∷ []) items)) in
     record {
       next = reading_of rules (InRight (record rule { right = rule.right ++ item ∷ [] }));
       step = inr (record {
-        item = item; spelled = subst (λ (k : List Token). SpellsRightItem version rule.left item k) (sym (ap (λ (k : Sentence). k.words) h.head)) spelled.0;
-        room = one_less rule.right r.items items item (rule.right ++ r.items) 16 refl i r.sized.right_few; after = refl });
+        item = item;
+        spelled = subst (λ (k : List Token). SpellsRightItem version rule.left item k) (sym (ap (λ (k : Sentence). k.words) h.head)) spelled.0;
+        room = one_less rule.right r.items items item (rule.right ++ r.items) 16 refl i r.sized.right_few;
+        after = refl;
+      });
       rest = record {
-        right_lines = ls; more_lines = r.more_lines; end_at = r.end_at; items = items; more = r.more;
-        lines = h.tail; spelled = spelled.1; sized = subst (λ (k : Rule). IsSized k) same r.sized; each = r.each;
-        whole = r.whole ∙ ap (λ (k : Rule). rules ++ (k ∷ r.more)) same };
+        right_lines = ls;
+        more_lines = r.more_lines;
+        end_at = r.end_at;
+        items = items;
+        more = r.more;
+        lines = h.tail;
+        spelled = spelled.1;
+        sized = subst (λ (k : Rule). IsSized k) same r.sized;
+        each = r.each;
+        whole = r.whole ∙ ap (λ (k : Rule). rules ++ (k ∷ r.more)) same;
+      };
     }
 
 right_back : (version : Version) (rules : List Rule) (rule : Rule) (s : Sentence) (ss : List Sentence) (all : List Rule) → RightRest version rules rule (s ∷ ss) all → Back version rules (InRight rule) s ss all

@@ -1,42 +1,33 @@
 -- A line without a fault, and what it leaves.
-use Rattle.std.proofs.Common.{◌≡◌, ◌⊎◌, inl, inr, ℕ, zero, suc, ◌+◌, ◌<◌, ◌≤◌, ◌&&◌, ◌||◌, Bool, true, false, not, List, [], ◌∷◌, ◌++◌, length, refl, ap, sym, ◌∙◌, subst, arith, Some, None, codes}
-use Rattle.std.proofs.lemmas.Grind.{common_steps}
+use Rattle.std.proofs.Common.{◌≡◌, ℕ, Bool, true, false, List, [], ◌∷◌, refl, ap, ◌∙◌, subst, Some, None, codes}
 use Rattle.std.proofs.lemmas.Slice.Eq.{bytes_eq-Decides}
 use Rattle.std.proofs.lemmas.Bool.{eqb-true}
-use Rattle.std.specs.Prelude.{Option, Result, Ok, Err, nat_le, nat_lt, if◌then◌else◌, ◌==◌}
+use Rattle.std.specs.Prelude.{Option, Ok, if◌then◌else◌, ◌==◌}
 use Rattle.std.specs.List.{list_any}
 use Rattle.std.specs.Str.{bytes_eq}
-use Rattle.mv_rules.specs.declared.rule.Pattern.{Pattern}
 use Rattle.mv_rules.specs.declared.rule.Guard.{Guard}
-use Rattle.mv_rules.specs.declared.rule.Rule.{Rule}
 use Rattle.mv_rules.specs.declared.rule.Comparison.{Comparison}
 use Rattle.mv_rules.specs.declared.rule.Comparison.TheVariants.{Equal, Less, Greater}
-use Rattle.mv_rules.specs.declared.fault.RuleFault.{RuleFault}
 use Rattle.mv_rules.specs.declared.fault.RuleKind.{RuleKind}
-use Rattle.mv_rules.specs.declared.found.Found.{Found}
-use Rattle.mv_rules.specs.declared.found.Found.TheVariants.{Other, OutOfRange, Is}
+use Rattle.mv_rules.specs.declared.found.Found.TheVariants.{Other, Is}
 use Rattle.mv_rules.specs.declared.line.Line.{Line}
 use Rattle.mv_rules.specs.declared.line.Line.TheVariants as lines
 use Rattle.mv_rules.specs.declared.reading.Version.{Version}
 use Rattle.mv_rules.specs.declared.reading.Version.TheVariants.{First, Second}
-use Rattle.mv_rules.specs.declared.reading.Phase.{Phase}
-use Rattle.mv_rules.specs.declared.reading.Phase.TheVariants.{Outside, InLeft, InRight}
 use Rattle.mv_rules.specs.declared.reading.Reading.{Reading}
 use Rattle.mv_rules.specs.declared.token.Token.{Token}
 use Rattle.mv_rules.specs.declared.token.Token.TheVariants.{Plain, Quoted, Glued}
 use Rattle.mv_rules.specs.declared.verb.Verb.{Verb}
-use Rattle.mv_rules.specs.declared.verb.Verb.TheVariants as verbs
-use Rattle.mv_rules.specs.Found.{found_map, pair, is_other, is_out_of_range}
+use Rattle.mv_rules.specs.Found.{pair}
 use Rattle.mv_rules.specs.Forms.{is_word, number_of, verb_of, item_of, guard_of, guard_made, byte_name_of, comparison_of}
-use Rattle.mv_rules.specs.Names.{is_name, has_good_names, rest_is_last, parts_in, is_sized, has_again, is_all_bound, bytes_are_bound}
-use Rattle.mv_rules.specs.RulesText.{is_misplaced, is_excess, is_empty_left, is_formless, is_unfit, is_bad_text, is_misnamed, is_twice, is_unbound, is_bad_guard, faults_on, first_fault, unless, read_words, after_line, begun, line_of, line_under, item_line, guard_line, has_words, part_count}
-use Rattle.mv_rules.specs.ItemGrammar.{Side, Left, Right, SpellsItem, SpellsGuard, SpellsName, sign_of}
-use Rattle.mv_rules.specs.Grammar.{SpellsLeftItem, SpellsLeftGuard, SpellsRightItem}
-use Rattle.mv_rules.proofs.DraftSteps.{AllFalse, clean_all, below}
-use Rattle.mv_rules.proofs.GrammarFinds.{both_true, both_false, by_if, by_map, pair_is}
-use Rattle.mv_rules.proofs.GrammarTerms.{lengths_on, number_is, number_found}
-use Rattle.mv_rules.proofs.GrammarWords.{is_word_is, IsClean, clean_tail}
-use Rattle.mv_rules.proofs.GrammarItems.{IsGood, word_of, item_is}
+use Rattle.mv_rules.specs.Names.{is_name}
+use Rattle.mv_rules.specs.RulesText.{is_misplaced, is_excess, is_empty_left, is_formless, is_unfit, is_bad_text, is_misnamed, is_twice, is_unbound, is_bad_guard, faults_on, first_fault, unless, read_words, after_line, line_of, line_under, item_line, guard_line, has_words}
+use Rattle.mv_rules.specs.ItemGrammar.{SpellsGuard, SpellsName, sign_of}
+use Rattle.mv_rules.proofs.DraftSteps.{AllFalse, clean_all}
+use Rattle.mv_rules.proofs.GrammarFinds.{by_if, by_map, pair_is}
+use Rattle.mv_rules.proofs.GrammarTerms.{number_is}
+use Rattle.mv_rules.proofs.GrammarWords.{is_word_is}
+use Rattle.mv_rules.proofs.GrammarItems.{word_of}
 
 -- ## No fault of the table
 
@@ -56,8 +47,16 @@ faultless_is : (reading : Reading) (lengths : Bool) (tokens : List Token) (line 
 faultless_is reading lengths tokens line none =
     let c : AllFalse (faults_on reading lengths tokens line) = clean_all (faults_on reading lengths tokens line) none in
     record {
-      misplaced = c.0; excess = c.1.0; empty = c.1.1.0; formless = c.1.1.1.0; unfit = c.1.1.1.1.0; text = c.1.1.1.1.1.0;
-      misnamed = c.1.1.1.1.1.1.0; twice = c.1.1.1.1.1.1.1.0; unbound = c.1.1.1.1.1.1.1.1.0; guard = c.1.1.1.1.1.1.1.1.1.0;
+      misplaced = c.0;
+      excess = c.1.0;
+      empty = c.1.1.0;
+      formless = c.1.1.1.0;
+      unfit = c.1.1.1.1.0;
+      text = c.1.1.1.1.1.0;
+      misnamed = c.1.1.1.1.1.1.0;
+      twice = c.1.1.1.1.1.1.1.0;
+      unbound = c.1.1.1.1.1.1.1.1.0;
+      guard = c.1.1.1.1.1.1.1.1.1.0;
     }
 
 none_of : (tests : List (Bool × RuleKind)) → AllFalse tests → first_fault tests ≡ None
@@ -97,10 +96,10 @@ comparison_is c token is =
     by_if (is_word (codes "=") token) (Is Equal) (if is_word (codes "<") token then Is Less else if is_word (codes ">") token then Is Greater else Other) c (token ≡ Plain (sign_of c))
     (λ e is. let q : Equal ≡ c = cc in subst (λ (k : Comparison). token ≡ Plain (sign_of k)) q (is_word_is (codes "=") token e))
     (λ e is. by_if (is_word (codes "<") token) (Is Less) (if is_word (codes ">") token then Is Greater else Other) c (token ≡ Plain (sign_of c))
-        (λ e is. let q : Less ≡ c = cc in subst (λ (k : Comparison). token ≡ Plain (sign_of k)) q (is_word_is (codes "<") token e))
-        (λ e is. by_if (is_word (codes ">") token) (Is Greater) Other c (token ≡ Plain (sign_of c))
-            (λ e is. let q : Greater ≡ c = cc in subst (λ (k : Comparison). token ≡ Plain (sign_of k)) q (is_word_is (codes ">") token e))
-            (λ e is. cc) is) is) is
+    (λ e is. let q : Less ≡ c = cc in subst (λ (k : Comparison). token ≡ Plain (sign_of k)) q (is_word_is (codes "<") token e))
+    (λ e is. by_if (is_word (codes ">") token) (Is Greater) Other c (token ≡ Plain (sign_of c))
+    (λ e is. let q : Greater ≡ c = cc in subst (λ (k : Comparison). token ≡ Plain (sign_of k)) q (is_word_is (codes ">") token e))
+    (λ e is. cc) is) is) is
 
 byte_name_is : (name : List ℕ) (token : Token) → byte_name_of token ≡ Is name → is_name name ≡ true → SpellsName 64 name token
 byte_name_is name (Plain []) is good = cc
@@ -121,14 +120,15 @@ guard_is guard (name ∷ op ∷ []) is good = cc
 guard_is guard (name ∷ op ∷ number ∷ []) is good =
     by_map (λ (t : (List ℕ × Comparison) × ℕ). guard_made t.0.0 t.0.1 t.1) (pair (pair (byte_name_of name) (comparison_of op)) (number_of 0 65536 number)) guard (GuardIs (name ∷ op ∷ number ∷ []))
     (λ t found good.
-        let p = pair_is (pair (byte_name_of name) (comparison_of op)) (number_of 0 65536 number) t found in
-        let q = pair_is (byte_name_of name) (comparison_of op) t.0 p.0 in
-        record {
-          name = name; number = number;
-          written = ap (λ (k : Token). Plain (codes "when") ∷ name ∷ k ∷ number ∷ []) (comparison_is t.0.1 op q.1);
-          named = byte_name_is t.0.0 name q.0 good;
-          length = number_is 0 65536 t.1 number p.1;
-        })
+    let p = pair_is (pair (byte_name_of name) (comparison_of op)) (number_of 0 65536 number) t found in
+    let q = pair_is (byte_name_of name) (comparison_of op) t.0 p.0 in
+    record {
+      name = name;
+      number = number;
+      written = ap (λ (k : Token). Plain (codes "when") ∷ name ∷ k ∷ number ∷ []) (comparison_is t.0.1 op q.1);
+      named = byte_name_is t.0.0 name q.0 good;
+      length = number_is 0 65536 t.1 number p.1;
+    })
     is good
 guard_is guard (name ∷ op ∷ number ∷ other ∷ tokens) is good = cc
 

@@ -1,10 +1,9 @@
 -- The terms and parts that are found are those that their words spell.
-use Rattle.std.proofs.Common.{◌≡◌, ℕ, zero, suc, ◌+◌, ◌<◌, ◌≤◌, ◌&&◌, ◌||◌, Bool, true, false, not, List, [], ◌∷◌, ◌++◌, length, refl, ap, sym, ◌∙◌, subst, take, drop, arith, Some, None, add-one}
-use Rattle.std.proofs.lemmas.Grind.{common_steps}
+use Rattle.std.proofs.Common.{◌≡◌, ℕ, ◌+◌, ◌<◌, ◌≤◌, ◌&&◌, Bool, true, false, List, [], ◌∷◌, ◌++◌, length, refl, ap, ◌∙◌, subst, take, drop, arith, Some, None}
 use Rattle.std.proofs.lemmas.Bool.{eqb-true}
 use Rattle.std.proofs.lemmas.Bool.Decides.{nat_tests}
 use Rattle.std.proofs.Math.Seq.{take-append_seam, drop-append-add}
-use Rattle.std.specs.Prelude.{Option, nat_le, nat_lt, if◌then◌else◌, ◌==◌, unwrap_or}
+use Rattle.std.specs.Prelude.{Option, nat_le, if◌then◌else◌, ◌==◌}
 use Rattle.std.specs.List.{position, list_any, list_all}
 use Rattle.mv_rules.specs.declared.rule.FdTerm.{FdTerm}
 use Rattle.mv_rules.specs.declared.rule.FdTerm.TheVariants as fds
@@ -18,12 +17,12 @@ use Rattle.mv_rules.specs.declared.token.Token.{Token}
 use Rattle.mv_rules.specs.declared.token.Token.TheVariants.{Plain, Quoted, Glued}
 use Rattle.mv_rules.specs.declared.found.Found.{Found}
 use Rattle.mv_rules.specs.declared.found.Found.TheVariants.{Other, OutOfRange, Is}
-use Rattle.mv_rules.specs.Found.{found_map, pair, only_if}
-use Rattle.mv_rules.specs.Forms.{is_digit, decimal, decimal_from, in_range, number_of, fd_of, fd_in_word, time_of, time_in_word, sized_as, named_at, part_in_word, part_of, all_parts, parts_of}
+use Rattle.mv_rules.specs.Found.{found_map}
+use Rattle.mv_rules.specs.Forms.{is_digit, decimal, decimal_from, in_range, number_of, fd_of, fd_in_word, time_of, time_in_word, sized_as, named_at, part_in_word, part_of}
 use Rattle.mv_rules.specs.Names.{is_name, is_name_byte, is_lower, fd_name_passes, time_name_passes, part_name_passes, is_sized}
 use Rattle.mv_rules.specs.RulesText.{is_bad_text}
-use Rattle.mv_rules.specs.ItemGrammar.{Side, Left, Right, SpellsNumber, SpellsName, SpellsFd, SpellsTime, SpellsSized, SpellsPart, SpellsParts}
-use Rattle.mv_rules.proofs.GrammarFinds.{both_true, both_false, by_if, by_map, pair_is, range_is, range_of, StandsAt, position_is, position_at, position_none}
+use Rattle.mv_rules.specs.ItemGrammar.{Side, Left, Right, SpellsNumber, SpellsName, SpellsFd, SpellsTime, SpellsSized, SpellsPart}
+use Rattle.mv_rules.proofs.GrammarFinds.{both_true, by_if, by_map, range_is, range_of, position_is, position_at, position_none}
 
 -- whether a `#name` is a part on this side
 abbrev pub lengths_on : Side → Bool
@@ -72,7 +71,7 @@ fd_is fd (Plain (b ∷ bytes)) is good =
     by_if (b == 36) (Is (fds.Name bytes)) (found_map fds.Number (in_range 0 4294967295 (decimal (b ∷ bytes)))) fd (SpellsFd fd (Plain (b ∷ bytes)))
     (λ e is. let same : fds.Name bytes ≡ fd = cc in subst (λ (f : FdTerm). FdIs (Plain (b ∷ bytes)) f) same (named_is 36 b bytes e) good)
     (λ e is. by_map fds.Number (in_range 0 4294967295 (decimal (b ∷ bytes))) fd (FdIs (Plain (b ∷ bytes)))
-        (λ n found unused. number_is 0 4294967295 n (Plain (b ∷ bytes)) found) is good)
+    (λ n found unused. number_is 0 4294967295 n (Plain (b ∷ bytes)) found) is good)
     is
 fd_is fd (Quoted text) is good = cc
 fd_is fd Glued is good = cc
@@ -86,7 +85,7 @@ time_is time (Plain (b ∷ bytes)) is good =
     by_if (b == 37) (Is (times.Name bytes)) (found_map times.Number (in_range 0 18446744073709551615 (decimal (b ∷ bytes)))) time (SpellsTime time (Plain (b ∷ bytes)))
     (λ e is. let same : times.Name bytes ≡ time = cc in subst (λ (f : TimeTerm). TimeIs (Plain (b ∷ bytes)) f) same (named_is 37 b bytes e) good)
     (λ e is. by_map times.Number (in_range 0 18446744073709551615 (decimal (b ∷ bytes))) time (TimeIs (Plain (b ∷ bytes)))
-        (λ n found unused. number_is 0 18446744073709551615 n (Plain (b ∷ bytes)) found) is good)
+    (λ n found unused. number_is 0 18446744073709551615 n (Plain (b ∷ bytes)) found) is good)
     is
 time_is time (Quoted text) is good = cc
 time_is time Glued is good = cc
@@ -152,8 +151,8 @@ sized_is side b whole name digits (Is n) part e same split is =
     let q : Sized name n ≡ part = cc in
     let t = range_is 1 65536 n (decimal digits) same in
     subst (λ (p : Part). PartIs side (Plain (b ∷ whole)) p) q (λ stands. spells_sized side name n (Plain (b ∷ whole))
-        (record { digits = digits; written = ap (λ (k : ℕ). Plain (k ∷ whole)) (eqb-true b 64 e) ∙ ap (λ (k : List ℕ). Plain (64 ∷ k)) split; good = stands.good; value = t.0; from = t.1.0; to = t.1.1 })
-        stands)
+    (record { digits = digits; written = ap (λ (k : ℕ). Plain (k ∷ whole)) (eqb-true b 64 e) ∙ ap (λ (k : List ℕ). Plain (64 ∷ k)) split; good = stands.good; value = t.0; from = t.1.0; to = t.1.1 })
+    stands)
 
 named_at_is : (side : Side) (b : ℕ) (whole : List ℕ) (colon : Option ℕ) (part : Part) → (b == 64) ≡ true → position (λ c. c == 58) whole ≡ colon
     → named_at whole colon ≡ Is part → PartIs side (Plain (b ∷ whole)) part
@@ -182,7 +181,7 @@ part_is side part (Plain (b ∷ bytes)) is clean stands =
     by_if (b == 64) (named_at bytes (position (λ c. c == 58) bytes)) (if (b == 35) && lengths_on side then Is (Length bytes) else Other) part (SpellsPart side part (Plain (b ∷ bytes)))
     (λ e is. named_at_is side b bytes (position (λ c. c == 58) bytes) part e refl is stands)
     (λ e is. by_if ((b == 35) && lengths_on side) (Is (Length bytes)) Other part (SpellsPart side part (Plain (b ∷ bytes)))
-        (λ e is. length_is side b bytes part e is stands) (λ e is. cc) is)
+    (λ e is. length_is side b bytes part e is stands) (λ e is. cc) is)
     is
 part_is side part (Quoted None) is clean stands = cc
 part_is side part (Quoted (Some text)) is clean stands =

@@ -1,27 +1,24 @@
 -- The lines that are read are those of the grammar: what is left of them, line by line.
-use Rattle.std.proofs.Common.{◌≡◌, ◌⊎◌, inl, inr, ℕ, zero, suc, ◌+◌, ◌<◌, ◌≤◌, Bool, true, false, List, [], ◌∷◌, ◌++◌, length, refl, ap, sym, ◌∙◌, subst, arith, append_assoc, append-nil, length-append, Some, None, codes}
-use Rattle.std.proofs.lemmas.Grind.{common_steps}
-use Rattle.std.specs.Prelude.{Option, Result, Ok, Err, if◌then◌else◌}
+use Rattle.std.proofs.Common.{◌≡◌, inl, inr, ℕ, ◌+◌, ◌<◌, ◌≤◌, List, [], ◌∷◌, ◌++◌, length, refl, ap, sym, ◌∙◌, subst, arith, append_assoc, append-nil, length-append, codes}
+use Rattle.std.specs.Prelude.{Result, Ok, Err}
 use Rattle.mv_rules.specs.declared.rule.Pattern.{Pattern}
 use Rattle.mv_rules.specs.declared.rule.Guard.{Guard}
 use Rattle.mv_rules.specs.declared.rule.Rule.{Rule}
 use Rattle.mv_rules.specs.declared.fault.RuleFault.{RuleFault}
-use Rattle.mv_rules.specs.declared.line.Line.{Line}
 use Rattle.mv_rules.specs.declared.reading.Version.{Version}
 use Rattle.mv_rules.specs.declared.reading.Phase.{Phase}
 use Rattle.mv_rules.specs.declared.reading.Phase.TheVariants.{Outside, InLeft, InRight}
 use Rattle.mv_rules.specs.declared.reading.Reading.{Reading}
 use Rattle.mv_rules.specs.declared.token.Token.{Token}
-use Rattle.mv_rules.specs.declared.token.Token.TheVariants.{Plain}
 use Rattle.mv_rules.specs.Shape.{IsShaped}
 use Rattle.mv_rules.specs.Drafts.{IsDraft}
 use Rattle.mv_rules.specs.Words.{words_of}
 use Rattle.mv_rules.specs.RulesText.{and_then, at_end, begun, line_of, lengths_stand, read_line, read_lines, read_words}
-use Rattle.mv_rules.specs.Grammar.{Sentence, if_words, sentences, lone, SpellsLeft, SpellsLeftItem, SpellsLeftGuard, SpellsRight, SpellsRightItem, SpellsRule, SpellsEach}
+use Rattle.mv_rules.specs.Grammar.{Sentence, if_words, sentences, lone, SpellsLeft, SpellsRight, SpellsEach}
 use Rattle.mv_rules.proofs.DraftSteps.{draft_read}
-use Rattle.mv_rules.proofs.GrammarSteps.{Leaves, leaves_is, leaves_given}
+use Rattle.mv_rules.proofs.GrammarSteps.{leaves_is, leaves_given}
 use Rattle.mv_rules.proofs.GrammarPhases.{reading_of, BeginsRule, TurnsRule, AddsLeft, AddsGuard, EndsRule, AddsRight, Step, step_is}
-use Rattle.mv_rules.proofs.GrammarBack.{step_given, blank_given}
+use Rattle.mv_rules.proofs.GrammarBack.{blank_given}
 
 abbrev pub sentence : ℕ → List Token → Sentence
 sentence at words = record { at = at; words = words }
@@ -96,19 +93,33 @@ begins_more version rules at words next ss all s rest =
     let r : LeftRest version rules (begun at) ss all = subst (λ (n : Reading). RestAfter version n ss all) (sym s.after) rest in
     let block = lone r.made.line (codes "rule") ∷ (r.left_lines ++ (lone r.to_at (codes "to") ∷ (r.right_lines ++ (lone r.end_at (codes "end") ∷ [])))) in
     let left : SpellsLeft version [] r.made.left r.made.guards r.left_lines =
-        subst (λ (k : List Pattern). SpellsLeft version [] k r.made.guards r.left_lines) (sym r.left)
-        (subst (λ (k : List Guard). SpellsLeft version [] r.items k r.left_lines) (sym r.guarded) r.spelled_left) in
+    subst (λ (k : List Pattern). SpellsLeft version [] k r.made.guards r.left_lines) (sym r.left)
+    (subst (λ (k : List Guard). SpellsLeft version [] r.items k r.left_lines) (sym r.guarded) r.spelled_left) in
     let lines : sentence at words ∷ ss ≡ block ++ r.more_lines =
-        ap (λ (k : List Token). sentence at k ∷ ss) s.written
-        ∙ ap (λ (n : ℕ). lone n (codes "rule") ∷ ss) (sym r.line)
-        ∙ ap (λ (k : List Sentence). lone r.made.line (codes "rule") ∷ k) (r.lines ∙ sym (joined r.left_lines r.right_lines r.more_lines (lone r.to_at (codes "to")) (lone r.end_at (codes "end")))) in
+    ap (λ (k : List Token). sentence at k ∷ ss) s.written
+    ∙ ap (λ (n : ℕ). lone n (codes "rule") ∷ ss) (sym r.line)
+    ∙ ap (λ (k : List Sentence). lone r.made.line (codes "rule") ∷ k) (r.lines ∙ sym (joined r.left_lines r.right_lines r.more_lines (lone r.to_at (codes "to")) (lone r.end_at (codes "end")))) in
     record {
       more = r.made ∷ r.more;
-      each = (block, r.more_lines, lines,
+      each = (
+        block,
+        r.more_lines,
+        lines,
         record {
-          left_lines = r.left_lines; right_lines = r.right_lines; to_at = r.to_at; end_at = r.end_at; lines = refl; left = left; right = r.spelled_right;
-          some = r.sized.some; left_few = r.sized.left_few; guards_few = r.sized.guards_few; right_few = r.sized.right_few },
-        r.each);
+          left_lines = r.left_lines;
+          right_lines = r.right_lines;
+          to_at = r.to_at;
+          end_at = r.end_at;
+          lines = refl;
+          left = left;
+          right = r.spelled_right;
+          some = r.sized.some;
+          left_few = r.sized.left_few;
+          guards_few = r.sized.guards_few;
+          right_few = r.sized.right_few;
+        },
+        r.each,
+      );
       whole = r.whole;
     }
 
@@ -117,13 +128,26 @@ turns_more : (version : Version) (rules : List Rule) (rule : Rule) (at : ℕ) (w
 turns_more version rules rule at words next ss all none s rest =
     let r : RightRest version rules rule ss all = subst (λ (n : Reading). RestAfter version n ss all) (sym s.after) rest in
     let right : SpellsRight version rule.left (rule.right ++ r.items) r.right_lines =
-        subst (λ (k : List Pattern). SpellsRight version rule.left (k ++ r.items) r.right_lines) (sym none) r.spelled in
+    subst (λ (k : List Pattern). SpellsRight version rule.left (k ++ r.items) r.right_lines) (sym none) r.spelled in
     record {
-      left_lines = []; right_lines = r.right_lines; more_lines = r.more_lines; to_at = at; end_at = r.end_at;
-      made = with_rights rule r.items; items = []; guards = []; more = r.more;
+      left_lines = [];
+      right_lines = r.right_lines;
+      more_lines = r.more_lines;
+      to_at = at;
+      end_at = r.end_at;
+      made = with_rights rule r.items;
+      items = [];
+      guards = [];
+      more = r.more;
       lines = ap (λ (k : List Token). sentence at k ∷ ss) s.written ∙ ap (λ (k : List Sentence). lone at (codes "to") ∷ k) r.lines;
-      line = refl; left = sym (append-nil rule.left); guarded = sym (append-nil rule.guards);
-      spelled_left = (refl, refl); spelled_right = right; sized = r.sized; each = r.each; whole = r.whole;
+      line = refl;
+      left = sym (append-nil rule.left);
+      guarded = sym (append-nil rule.guards);
+      spelled_left = (refl, refl);
+      spelled_right = right;
+      sized = r.sized;
+      each = r.each;
+      whole = r.whole;
     }
 
 left_more : (version : Version) (rules : List Rule) (rule : Rule) (at : ℕ) (words : List Token) (next : Reading) (ss : List Sentence) (all : List Rule) → AddsLeft rules rule words next
@@ -131,12 +155,24 @@ left_more : (version : Version) (rules : List Rule) (rule : Rule) (at : ℕ) (wo
 left_more version rules rule at words next ss all s rest =
     let r : LeftRest version rules (record rule { left = rule.left ++ s.item ∷ [] }) ss all = subst (λ (n : Reading). RestAfter version n ss all) (sym s.after) rest in
     record {
-      left_lines = sentence at words ∷ r.left_lines; right_lines = r.right_lines; more_lines = r.more_lines; to_at = r.to_at; end_at = r.end_at;
-      made = r.made; items = s.item ∷ r.items; guards = r.guards; more = r.more;
+      left_lines = sentence at words ∷ r.left_lines;
+      right_lines = r.right_lines;
+      more_lines = r.more_lines;
+      to_at = r.to_at;
+      end_at = r.end_at;
+      made = r.made;
+      items = s.item ∷ r.items;
+      guards = r.guards;
+      more = r.more;
       lines = ap (λ (k : List Sentence). sentence at words ∷ k) r.lines;
-      line = r.line; left = r.left ∙ append_assoc rule.left (s.item ∷ []) r.items; guarded = r.guarded;
+      line = r.line;
+      left = r.left ∙ append_assoc rule.left (s.item ∷ []) r.items;
+      guarded = r.guarded;
       spelled_left = inl (s.item, r.items, refl, s.spelled, r.spelled_left);
-      spelled_right = r.spelled_right; sized = r.sized; each = r.each; whole = r.whole;
+      spelled_right = r.spelled_right;
+      sized = r.sized;
+      each = r.each;
+      whole = r.whole;
     }
 
 guard_more : (version : Version) (rules : List Rule) (rule : Rule) (at : ℕ) (words : List Token) (next : Reading) (ss : List Sentence) (all : List Rule) → AddsGuard version rules rule words next
@@ -144,12 +180,24 @@ guard_more : (version : Version) (rules : List Rule) (rule : Rule) (at : ℕ) (w
 guard_more version rules rule at words next ss all s rest =
     let r : LeftRest version rules (record rule { guards = rule.guards ++ s.guard ∷ [] }) ss all = subst (λ (n : Reading). RestAfter version n ss all) (sym s.after) rest in
     record {
-      left_lines = sentence at words ∷ r.left_lines; right_lines = r.right_lines; more_lines = r.more_lines; to_at = r.to_at; end_at = r.end_at;
-      made = r.made; items = r.items; guards = s.guard ∷ r.guards; more = r.more;
+      left_lines = sentence at words ∷ r.left_lines;
+      right_lines = r.right_lines;
+      more_lines = r.more_lines;
+      to_at = r.to_at;
+      end_at = r.end_at;
+      made = r.made;
+      items = r.items;
+      guards = s.guard ∷ r.guards;
+      more = r.more;
       lines = ap (λ (k : List Sentence). sentence at words ∷ k) r.lines;
-      line = r.line; left = r.left; guarded = r.guarded ∙ append_assoc rule.guards (s.guard ∷ []) r.guards;
+      line = r.line;
+      left = r.left;
+      guarded = r.guarded ∙ append_assoc rule.guards (s.guard ∷ []) r.guards;
       spelled_left = inr (s.guard, r.guards, refl, s.spelled, r.spelled_left);
-      spelled_right = r.spelled_right; sized = r.sized; each = r.each; whole = r.whole;
+      spelled_right = r.spelled_right;
+      sized = r.sized;
+      each = r.each;
+      whole = r.whole;
     }
 
 pub unchanged : (rule : Rule) → with_rights rule [] ≡ rule
@@ -161,9 +209,15 @@ ends_more version rules rule at words next ss all shaped s rest =
     let r : OutRest version (rules ++ rule ∷ []) ss all = subst (λ (n : Reading). RestAfter version n ss all) (sym s.after) rest in
     let sized : IsSized rule = record { some = shaped.some; left_few = shaped.left; guards_few = shaped.guards; right_few = shaped.right } in
     record {
-      right_lines = []; more_lines = ss; end_at = at; items = []; more = r.more;
+      right_lines = [];
+      more_lines = ss;
+      end_at = at;
+      items = [];
+      more = r.more;
       lines = ap (λ (k : List Token). sentence at k ∷ ss) s.written;
-      spelled = tt; sized = subst (λ (k : Rule). IsSized k) (sym (unchanged rule)) sized; each = r.each;
+      spelled = tt;
+      sized = subst (λ (k : Rule). IsSized k) (sym (unchanged rule)) sized;
+      each = r.each;
       whole = r.whole ∙ append_assoc rules (rule ∷ []) r.more ∙ ap (λ (k : Rule). rules ++ (k ∷ r.more)) (sym (unchanged rule));
     }
 
@@ -172,12 +226,17 @@ right_more : (version : Version) (rules : List Rule) (rule : Rule) (at : ℕ) (w
 right_more version rules rule at words next ss all s rest =
     let r : RightRest version rules (record rule { right = rule.right ++ s.item ∷ [] }) ss all = subst (λ (n : Reading). RestAfter version n ss all) (sym s.after) rest in
     let same : record rule { right = (rule.right ++ s.item ∷ []) ++ r.items } ≡ with_rights rule (s.item ∷ r.items) =
-        ap (λ (k : List Pattern). record rule { right = k }) (append_assoc rule.right (s.item ∷ []) r.items) in
+    ap (λ (k : List Pattern). record rule { right = k }) (append_assoc rule.right (s.item ∷ []) r.items) in
     record {
-      right_lines = sentence at words ∷ r.right_lines; more_lines = r.more_lines; end_at = r.end_at; items = s.item ∷ r.items; more = r.more;
+      right_lines = sentence at words ∷ r.right_lines;
+      more_lines = r.more_lines;
+      end_at = r.end_at;
+      items = s.item ∷ r.items;
+      more = r.more;
       lines = ap (λ (k : List Sentence). sentence at words ∷ k) r.lines;
       spelled = (s.spelled, r.spelled);
-      sized = subst (λ (k : Rule). IsSized k) same r.sized; each = r.each;
+      sized = subst (λ (k : Rule). IsSized k) same r.sized;
+      each = r.each;
       whole = r.whole ∙ ap (λ (k : Rule). rules ++ (k ∷ r.more)) same;
     }
 
@@ -268,5 +327,5 @@ lines_are version (line ∷ lines) reading at all is draft room =
     let t = then_is (read_line version reading at line) (λ next. read_lines version next (at + 1) lines) all is in
     let w : LineIs version reading at (words_of line) t.one = words_are version reading at (words_of line) t.one t.is draft room in
     let r : IsRest version t.one (sentences (at + 1) lines) all =
-        lines_are version lines t.one (at + 1) all t.after (draft_read version reading at line t.one t.is draft) w.room in
+    lines_are version lines t.one (at + 1) all t.after (draft_read version reading at line t.one t.is draft) w.room in
     record { rest = w.rest (sentences (at + 1) lines) all r.rest; few = r.few }

@@ -1,11 +1,8 @@
 -- Words that are no parts, lists of parts, and how many parts a line has.
-use Rattle.std.proofs.Common.{◌≡◌, ℕ, zero, suc, ◌+◌, ◌<◌, ◌≤◌, ◌&&◌, ◌||◌, Bool, true, false, not, List, [], ◌∷◌, ◌++◌, length, refl, ap, sym, ◌∙◌, subst, arith, Some, None, zero-add, one-add, codes, suc-add}
-use Rattle.std.proofs.lemmas.Grind.{common_steps}
+use Rattle.std.proofs.Common.{◌≡◌, ℕ, suc, ◌+◌, ◌≤◌, Bool, true, false, List, [], ◌∷◌, ◌++◌, length, refl, ap, sym, ◌∙◌, subst, arith, Some, zero-add, one-add, codes, suc-add}
 use Rattle.std.proofs.lemmas.Slice.Eq.{bytes_eq-Decides}
-use Rattle.std.proofs.lemmas.Bool.Decides.{nat_tests}
-use Rattle.std.specs.Prelude.{Option, nat_le, nat_lt, if◌then◌else◌, ◌==◌}
+use Rattle.std.specs.Prelude.{if◌then◌else◌, ◌==◌}
 use Rattle.std.specs.List.{list_any, list_all}
-use Rattle.std.specs.Str.{bytes_eq}
 use Rattle.mv_rules.specs.declared.rule.FdTerm.{FdTerm}
 use Rattle.mv_rules.specs.declared.rule.FdTerm.TheVariants as fds
 use Rattle.mv_rules.specs.declared.rule.TimeTerm.{TimeTerm}
@@ -16,13 +13,12 @@ use Rattle.mv_rules.specs.declared.reading.Version.{Version}
 use Rattle.mv_rules.specs.declared.reading.Version.TheVariants.{First, Second}
 use Rattle.mv_rules.specs.declared.token.Token.{Token}
 use Rattle.mv_rules.specs.declared.token.Token.TheVariants.{Plain, Quoted, Glued}
-use Rattle.mv_rules.specs.declared.found.Found.{Found}
-use Rattle.mv_rules.specs.declared.found.Found.TheVariants.{Other, OutOfRange, Is}
-use Rattle.mv_rules.specs.Found.{found_map, pair, is_other}
-use Rattle.mv_rules.specs.Forms.{is_digit, decimal, is_word, is_lone_word, is_errno, errno_in, number_of, part_of, part_in_word, all_parts, parts_of}
+use Rattle.mv_rules.specs.declared.found.Found.TheVariants.{Is}
+use Rattle.mv_rules.specs.Found.{pair, is_other}
+use Rattle.mv_rules.specs.Forms.{decimal, is_word, is_lone_word, is_errno, errno_in, part_of, all_parts, parts_of}
 use Rattle.mv_rules.specs.Names.{is_name, part_name_passes, is_sized}
 use Rattle.mv_rules.specs.RulesText.{is_bad_text, part_count}
-use Rattle.mv_rules.specs.ItemGrammar.{Side, Left, Right, arrow, SpellsNumber, SpellsName, SpellsFd, SpellsTime, SpellsSized, SpellsPart, SpellsParts, SpellsBytes, SpellsErrno, MayStand}
+use Rattle.mv_rules.specs.ItemGrammar.{Side, Left, Right, SpellsNumber, SpellsFd, SpellsTime, SpellsPart, SpellsParts, SpellsBytes, SpellsErrno, MayStand}
 use Rattle.mv_rules.proofs.GrammarFinds.{both_true, both_false, by_map, pair_is}
 use Rattle.mv_rules.proofs.GrammarTerms.{lengths_on, number_is, number_found, first_digit, below_digits, above_digits, StandsOn, part_is, part_found, part_clean, part_stands}
 
@@ -168,11 +164,12 @@ parts_are side parts (token ∷ tokens) is clean =
     let c = both_false (is_bad_text token) (list_any is_bad_text tokens) clean in
     by_map (λ (t : Part × List Part). t.0 ∷ t.1) (pair (part_of (lengths_on side) token) (all_parts (lengths_on side) tokens)) parts (PartsAre side (token ∷ tokens))
     (λ t found good unsized.
-        let p = pair_is (part_of (lengths_on side) token) (all_parts (lengths_on side) tokens) t found in
-        let g = both_true (part_name_passes is_name t.0) (list_all (part_name_passes is_name) t.1) good in
-        let stands : StandsOn side t.0 = record { good = g.0; unsized = λ version e. (both_false (is_sized t.0) (list_any is_sized t.1) (unsized version e)).0 } in
-        (part_is side t.0 token p.0 c.0 stands,
-         parts_are side t.1 tokens p.1 c.1 g.1 (λ version e. (both_false (is_sized t.0) (list_any is_sized t.1) (unsized version e)).1)))
+    let p = pair_is (part_of (lengths_on side) token) (all_parts (lengths_on side) tokens) t found in
+    let g = both_true (part_name_passes is_name t.0) (list_all (part_name_passes is_name) t.1) good in
+    let stands : StandsOn side t.0 = record { good = g.0; unsized = λ version e. (both_false (is_sized t.0) (list_any is_sized t.1) (unsized version e)).0 } in (
+      part_is side t.0 token p.0 c.0 stands,
+      parts_are side t.1 tokens p.1 c.1 g.1 (λ version e. (both_false (is_sized t.0) (list_any is_sized t.1) (unsized version e)).1),
+    ))
     is
 
 parts_some : (side : Side) (parts : List Part) (token : Token) (tokens : List Token) → SpellsParts side parts (token ∷ tokens) → 1 ≤ length parts

@@ -16,3 +16,4 @@ pub mod GrammarBack
 pub mod GrammarText
 pub mod GrammarReads
 pub mod GrammarLaws
+pub mod GuardLaws

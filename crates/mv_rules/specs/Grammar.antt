@@ -1,7 +1,8 @@
 -- The grammar of a rules file: which files spell these rules (docs/FORMATS.md, "Rewrite rules"). A rule is a block of lines, a
--- file is its first line and such blocks. Nothing here reads from left to right; `parse_rules` is proved to find exactly
--- the rules that a file spells.
-use Rattle.std.specs.Prelude.{◌≡◌, ◌⊎◌, ◌≤◌, ◌+◌, ℕ, true, false, List, [], ◌∷◌, ◌++◌, length, codes}
+-- file is its first line and such blocks. No line is judged by itself: nothing here says what is wrong with one. `parse_rules`
+-- is proved to find exactly the rules that a file spells.
+use Rattle.std.specs.Prelude.{◌≡◌, ◌⊎◌, ◌≤◌, ◌+◌, ℕ, Bool, true, false, List, [], ◌∷◌, ◌++◌, length, codes}
+use Rattle.std.specs.List.{list_all}
 use Rattle.mv_rules.specs.declared.rule.Pattern.{Pattern}
 use Rattle.mv_rules.specs.declared.rule.Guard.{Guard}
 use Rattle.mv_rules.specs.declared.rule.Rule.{Rule}
@@ -141,3 +142,9 @@ abbrev pub IsFirstFaultyLine : List ℕ → ℕ → Type 0
 IsFirstFaultyLine text at =
     ((at ≡ 1) × ((version : Version) (body : List (List ℕ)) → HasHeader text version body → ⊥))
     ⊎ ((version : Version) × (body : List (List ℕ)) × HasHeader text version body × (StopsAt version body at ⊎ EndsEarly version body at))
+
+-- ## Guards
+
+-- each guard of the rule is on a byte name of its left side
+abbrev pub has_bound_guards : Rule → Bool
+has_bound_guards rule = list_all (λ guard. bytes_are_bound rule.left guard.name) rule.guards

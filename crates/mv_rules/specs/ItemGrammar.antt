@@ -13,9 +13,9 @@ use Rattle.mv_rules.specs.declared.rule.Comparison.{Comparison}
 use Rattle.mv_rules.specs.declared.rule.Comparison.TheVariants.{Equal, Less, Greater}
 use Rattle.mv_rules.specs.declared.rule.Guard.{Guard}
 use Rattle.mv_rules.specs.declared.reading.Version.{Version}
-use Rattle.mv_rules.specs.declared.reading.Version.TheVariants.{First, Second}
+use Rattle.mv_rules.specs.declared.reading.Version.TheVariants.{Second}
 use Rattle.mv_rules.specs.declared.token.Token.{Token}
-use Rattle.mv_rules.specs.declared.token.Token.TheVariants.{Plain, Quoted, Glued}
+use Rattle.mv_rules.specs.declared.token.Token.TheVariants.{Plain, Quoted}
 use Rattle.mv_rules.specs.Forms.{decimal}
 use Rattle.mv_rules.specs.Names.{is_name, rest_is_last}
 
