@@ -17,4 +17,4 @@ pub use frame::{
 pub use instruction::act;
 pub use step::advance;
 pub use store::Store;
-pub use walk::{other_list, past_ends};
+pub use walk::{is_list_end, other_list, past_ends};

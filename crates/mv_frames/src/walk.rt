@@ -33,7 +33,7 @@ pub fn past_ends(code: &[Instr], start: usize, count: usize) -> usize
 }
 
 /// Whether the instruction ends a list of instructions.
-fn is_list_end(instr: &Instr) -> bool
+pub fn is_list_end(instr: &Instr) -> bool
     ensures { result ≡ ends_list instr.now }
 {
     matches!(instr, Instr::Else | Instr::End)
