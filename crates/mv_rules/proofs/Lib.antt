@@ -17,3 +17,6 @@ pub mod GrammarText
 pub mod GrammarReads
 pub mod GrammarLaws
 pub mod GuardLaws
+pub mod WordGiven
+pub mod WordFound
+pub mod WordLaws

@@ -4,7 +4,7 @@ use Rattle.std.proofs.lemmas.List.{append-nil}
 use Rattle.mv_rules.specs.declared.token.Token.{Token}
 use Rattle.mv_rules.specs.Words.{drop_spaces, first_word, words_within}
 
-step_by : (n : ℕ) (rest : List ℕ) (t : Token × List ℕ) → first_word (drop_spaces rest) ≡ Some t → words_within (suc n) rest ≡ t.0 ∷ words_within n t.1
+pub step_by : (n : ℕ) (rest : List ℕ) (t : Token × List ℕ) → first_word (drop_spaces rest) ≡ Some t → words_within (suc n) rest ≡ t.0 ∷ words_within n t.1
 step_by n rest t found = rw found refl
 
 -- one more word
@@ -18,7 +18,7 @@ words_step size counter rest t words all lt found h =
     ∙ ap (λ (k : List Token). words ++ k) (sym (ap (λ (k : ℕ). words_within k rest) n ∙ step_by (size - (counter + 1)) rest t found))
     ∙ h
 
-stop_by : (n : ℕ) (rest : List ℕ) → first_word (drop_spaces rest) ≡ None → words_within n rest ≡ []
+pub stop_by : (n : ℕ) (rest : List ℕ) → first_word (drop_spaces rest) ≡ None → words_within n rest ≡ []
 stop_by zero rest none = refl
 stop_by (suc n) rest none = rw none refl
 

@@ -7,4 +7,5 @@ pub mod Names
 pub mod RulesText
 pub mod Drafts
 pub mod ItemGrammar
+pub mod WordGrammar
 pub mod Grammar

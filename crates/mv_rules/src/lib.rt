@@ -5,6 +5,7 @@ mod fault;
 mod faults;
 mod forms;
 mod found;
+mod laws;
 mod line;
 mod lists;
 mod names;
@@ -21,6 +22,7 @@ mod verb;
 mod words;
 
 pub use fault::{RuleFault, RuleKind};
+pub use laws::words_are_spelled;
 pub use lists::{Guards, Parts, Patterns, Rules};
 pub use rule::{Comparison, FdTerm, Guard, Part, Pattern, Rule, TimeTerm};
 pub use text::parse_rules;

@@ -1,8 +1,9 @@
 //! The rules text: line by line, to the rules or the first fault.
-ghost use Rattle.std.specs.Prelude.{◌≡◌, ◌∷◌, ◌++◌, ◌<◌, ◌≤◌, [], Err, IfErr, IfOk, List, Ok, drop, length};
+ghost use Rattle.std.specs.Prelude.{◌≡◌, ◌∷◌, ◌++◌, ◌<◌, ◌≤◌, [], Err, IfErr, IfOk, List, Ok, drop, length, true};
+ghost use Rattle.std.specs.List.{list_all};
 ghost use Rattle.mv_calls.specs.Or.{IfFault, IsFault};
 ghost use Rattle.mv_rules.specs.declared.rule.Rule.{Rule};
-ghost use Rattle.mv_rules.specs.Grammar.{IsFirstFaultyLine, Spells};
+ghost use Rattle.mv_rules.specs.Grammar.{IsFirstFaultyLine, Spells, has_bound_guards};
 ghost use Rattle.mv_calls.specs.declared.fault.Or.TheVariants.{Fault};
 ghost use Rattle.mv_rules.specs.Shape.{IsShaped};
 ghost use Rattle.mv_rules.specs.Drafts.{IsDraft};
@@ -296,13 +297,14 @@ fn read_text(alloc: Global, text: &[u8]) -> Result<Rules, Or<RuleFault>>
 
 /// The rules that a text spells, of version 1 or 2 (docs/FORMATS.md, "Rewrite rules"). The fault is the first: that of the
 /// first faulty line, and on it the first kind in the order of the table. `Reads` and `Accepts` come only from the check of
-/// kept reads. The other error is want of memory.
+/// kept reads. The other error is want of memory. Each guard of a rule is on a byte name of its left side.
 pub fn parse_rules(alloc: Global, text: &[u8]) -> Result<Rules, Or<RuleFault>>
     ensures rules { IfOk result (λ rules. rules_in text.now ≡ Ok rules) }
     ensures fault { IfFault result (λ fault. rules_in text.now ≡ Err fault) }
     ensures spelled { IfOk result (λ rules. Spells text.now rules) }
     ensures refused { IsFault result → (rules : List Rule) → Spells text.now rules → ⊥ }
     ensures first { IfFault result (λ fault. IsFirstFaultyLine text.now fault.line) }
+    ensures guards { IfOk result (λ rules. list_all has_bound_guards rules ≡ true) }
 {
     read_text(alloc, text)
 }
