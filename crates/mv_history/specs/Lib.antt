@@ -1,5 +1,4 @@
 pub mod Answers
-pub mod Audit
 pub mod Followers
 pub mod Leads
 pub mod Payload

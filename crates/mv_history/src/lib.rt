@@ -1,25 +1,17 @@
-//! The log of a run: its entries, which logs are legal, and what a legal log means. The definitions stand in `specs`
-//! (docs/DEFINITIONS.md tells them in plain words).
+//! What the log of a run means: its entries, their payload, the status that they lead to, and the laws of legal logs. The
+//! definitions stand in `specs` (docs/DEFINITIONS.md tells them in plain words); `mv_audit` reads a log by them.
 #![tactic(auto)]
 
-mod answering;
-mod auditing;
-mod entering;
 mod entries;
-mod fold;
-mod following;
 mod laws;
 mod log;
 mod payload;
-mod replaying;
-mod same;
 mod status;
 #[cfg(test)]
 mod tests;
 mod updates;
 
 pub use entries::Entries;
-pub use fold::first_illegal;
 pub use laws::{
     counts_fit, leads_by_itself, no_byte_lost, one_world, replays_join, turns_are_legal,
     verdicts_stay, worlds_have_a_shape,

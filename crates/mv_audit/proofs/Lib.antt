@@ -1,0 +1,6 @@
+pub mod AnsweringLaws
+pub mod AuditLaws
+pub mod FoldLaws
+pub mod JudgementLaws
+pub mod SameLaws
+pub mod SayableLaws
