@@ -1,0 +1,14 @@
+pub mod Newest
+pub mod Written
+pub mod Moves
+pub mod Leaves
+pub mod Signatures
+pub mod Entries
+pub mod Waits
+pub mod Tables
+pub mod Runs
+pub mod Settles
+pub mod Executes
+pub mod Instances
+pub mod FromOutside
+pub mod SameCalls
