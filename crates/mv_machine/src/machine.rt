@@ -1,13 +1,15 @@
 //! A machine, and what is done with it from outside.
 
-ghost use Rattle.std.specs.Prelude.{◌≡◌, ◌<◌, [], ℕ, Some, None, IsSome, IsNone, IfSome, IfOk, OnOk, OnErr, length, slice_get};
+ghost use Rattle.std.specs.Prelude.{◌≡◌, ◌<◌, ◌≤◌, [], ℕ, Some, None, IsSome, IsNone, IfSome, IfOk, OnOk, OnErr, length, slice_get};
 ghost use Rattle.mv_syntax.specs.declared.types.FuncType.{FuncType as Signature};
 ghost use Rattle.mv_validator.specs.Types.{operands_of};
 ghost use Rattle.mv_validator.specs.Typing.{func_type};
+ghost use Rattle.mv_validator.specs.Valid.{IsValid};
 ghost use Rattle.mv_memory.specs.Memory.{disowned};
+ghost use Rattle.mv_execution.specs.Config.{frame_limit, gap_limit, operand_count, operand_limit};
 ghost use Rattle.mv_execution.specs.Instance.{program_of, new_config, with_element, with_memory};
 ghost use Rattle.mv_execution.specs.Run.{entered, arguments, answered, with_new_gap, param_count};
-ghost use Rattle.mv_execution.specs.Fits.{AreOf, module_context};
+ghost use Rattle.mv_execution.specs.Fits.{AreOf, FitsConfig, FitsProgram, module_context};
 ghost use Rattle.mv_machine.specs.States.{values_of};
 ghost use Rattle.mv_machine.specs.Calls.{HasFunction};
 ghost use Rattle.mv_machine.specs.Turns.{StopIs};
@@ -82,6 +84,22 @@ impl Machine {
         ensures { result.now ≡ self.now.parts }
     {
         &self.module
+    }
+
+    /// What every machine keeps: its module is valid, its configuration has the module's types, and no limit of this host is
+    /// passed. So no run of it is ever stuck (`typed_code_is_never_stuck` of mv_execution). The function does nothing; it carries
+    /// the law.
+    pub fn keeps(&self)
+        ensures valid { IsValid self.now.parts }
+        ensures program { FitsProgram (module_context self.now.parts) (program_of self.now.parts) }
+        ensures typed { FitsConfig (module_context self.now.parts) self.now.config }
+        ensures calls { length self.now.config.frames ≤ frame_limit }
+        ensures operands { operand_count self.now.config.frames ≤ operand_limit }
+        ensures gap { self.now.config.gap ≤ gap_limit }
+    {
+        keeps_memory(&self.state.store.memory);
+        let module: &ValidModule = &self.module;
+        let _module = module.module();
     }
 
     /// The type of the function with this index, the imported ones first; `None` exactly where there is no such function.

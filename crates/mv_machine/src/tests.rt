@@ -1,11 +1,13 @@
 //! Runs of small modules. Code is spelled by hand, byte by byte, and what it comes to is counted by hand from WebAssembly Core
 //! 1.0, section 4, and the limits of this host.
 
-ghost use Rattle.std.specs.Prelude.{◌≡◌, [], IfSome};
+ghost use Rattle.std.specs.Prelude.{◌≡◌, [], IfSome, Some};
+ghost use Rattle.mv_machine.specs.Stops.{StopStands};
 
 use super::*;
 use mv_calls::{OutOfMemory, Trap};
 use mv_reader::read_module;
+use mv_syntax::ValType;
 use mv_validator::validate;
 use std::alloc::Global;
 use std::test::Fail;
@@ -34,6 +36,7 @@ fn machine_of(alloc: Global, sections: &[u8]) -> Option<Machine>
 /// How a run of so much fuel of this function stops, which has no parameter; `None` where there is no such function.
 fn stop_of(alloc: Global, machine: &mut Machine, func: u32, fuel: u32) -> Option<Stop>
     requires idle { machine.old.config.frames ≡ [] }
+    ensures stands { IfSome result (λ stop. StopStands stop machine.new.config) }
 {
     let takes_none = match machine.function_type(func) {
         Some(ftype) => ftype.params.slice().is_empty(),
@@ -247,5 +250,60 @@ fn calls_through_the_table(rt: HostRuntime) -> Result<(), Fail> {
         trap(Trap::EmptyElement)
     );
     assert_eq!(rt; indirect_outcome(rt.alloc(), 2, 2), trap(Trap::TableIndex));
+    Ok(())
+}
+
+/// The first argument of the call that waits, where it has one.
+fn first_argument(machine: &Machine, index: u32) -> Option<u64>
+    requires waits { machine.now.config.waiting ≡ Some index }
+{
+    let ftype = machine.function_type(index)?;
+    if ftype.params.slice().is_empty() {
+        return None;
+    }
+    Some(machine.arg(0))
+}
+
+/// How the run goes on once the call that waits is answered by this number; `None` where it has no i32 for a result.
+fn answered_stop(alloc: Global, machine: &mut Machine, index: u32, value: u32) -> Option<Stop>
+    requires waits { machine.old.config.waiting ≡ Some index }
+{
+    let gives_i32 = match machine.function_type(index) {
+        Some(ftype) => matches!(ftype.result, Some(ValType::I32)),
+        None => false,
+    };
+    if !gives_i32 {
+        return None;
+    }
+    machine.push_result(Some(u64::from(value)));
+    Some(machine.run(alloc, AMPLE))
+}
+
+/// An import of `[i32] -> [i32]`, and a function that calls it with 5 and adds 1 to its result.
+const ASKING: &[u8; 26] =
+    b"\x02\x07\x01\x01a\x01b\x00\x02\x03\x02\x01\x01\x0a\x0b\x01\x09\x00\x41\x05\x10\x00\x41\x01\x6a\x0b";
+
+/// The first argument of the import, and how the run of a copy and that of the machine go on, answered by 8 and by 9.
+fn asked_and_answered(alloc: Global) -> Option<(Option<u64>, Option<Stop>, Option<Stop>)> {
+    let mut machine = machine_of(alloc, ASKING)?;
+    match stop_of(alloc, &mut machine, 1, AMPLE)? {
+        Stop::Import { index } => {
+            let argument = first_argument(&machine, index);
+            let mut copy = machine.copy(alloc).ok()?;
+            let of_copy = answered_stop(alloc, &mut copy, index, 8);
+            Some((
+                argument,
+                of_copy,
+                answered_stop(alloc, &mut machine, index, 9),
+            ))
+        }
+        _ => None,
+    }
+}
+
+#[test]
+fn an_import_waits_and_a_copy_goes_its_own_way(rt: HostRuntime) -> Result<(), Fail> {
+    let found = asked_and_answered(rt.alloc());
+    assert_eq!(rt; found, Some((Some(5), value(9), value(10))));
     Ok(())
 }
