@@ -1,4 +1,4 @@
-//! The reading of the logs of a small guest.
+//! The reading of the logs of a small guest, and the laws of logs at it.
 ghost use Rattle.std.specs.Prelude.{◌≡◌, ◌∷◌, [], Ok, refl};
 ghost use Rattle.std.proofs.Common.{lit<};
 ghost use Rattle.mv_calls.specs.declared.calls.Call.TheVariants as call;
@@ -7,7 +7,10 @@ ghost use Rattle.mv_version.specs.declared.event.Event.TheVariants as event;
 
 use super::*;
 use mv_calls::{Bytes, Call, Item, Or, OutOfMemory, Reply, Texts};
-use mv_history::{Cause, Entry, How, Mark, Update, Updates, Why};
+use mv_history::{
+    Cause, Entry, How, Mark, Update, Updates, Why, counts_fit, leads_by_itself, no_byte_lost,
+    one_world, replays_join, turns_are_legal, verdicts_stay, worlds_have_a_shape,
+};
 use mv_orders::{OrderReply, Word};
 use mv_syntax::BornFault;
 use mv_version::{Event, Version};
@@ -94,6 +97,19 @@ impl Small {
             Small::Ends => Small::Ends,
         };
     }
+}
+
+#[test]
+fn the_laws_speak_of_a_version(_rt: HostRuntime) -> Result<(), Fail> {
+    one_world::<Small>();
+    replays_join::<Small>();
+    verdicts_stay::<Small>();
+    no_byte_lost::<Small>();
+    leads_by_itself::<Small>();
+    counts_fit::<Small>();
+    worlds_have_a_shape::<Small>();
+    turns_are_legal::<Small>();
+    Ok(())
 }
 
 /// An order that is accepted.
