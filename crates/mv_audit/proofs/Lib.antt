@@ -2,5 +2,4 @@ pub mod AnsweringLaws
 pub mod AuditLaws
 pub mod FoldLaws
 pub mod JudgementLaws
-pub mod SameLaws
 pub mod SayableLaws

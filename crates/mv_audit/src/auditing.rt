@@ -11,8 +11,8 @@ ghost use Rattle.mv_history.specs.World.{AsksFor, AsksForTrap, IsFree, IsOpen, I
 use crate::answering::answers;
 use crate::following::{Basis, Follower, Judgement, judge};
 use crate::replaying::Outcome;
-use crate::same::{same_born_fault, same_call, same_event, same_rule_fault, same_trap, same_why};
-use mv_calls::{Call, OutOfMemory, Trap};
+use crate::same::{same_born_fault, same_event, same_rule_fault, same_trap, same_why};
+use mv_calls::{Call, OutOfMemory, Trap, same_call};
 use mv_history::{AtPoint, Cause, Entry, How, Mark, Side, Status, Update, Urgent, Why};
 use mv_orders::Stage;
 use mv_rules::RuleFault;

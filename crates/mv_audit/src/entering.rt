@@ -8,9 +8,9 @@ ghost use Rattle.mv_history.specs.Replay.{Stands};
 ghost use Rattle.mv_history.specs.World.{IsReady, MayEnter, MayMark, after_entry, also_hears, files_of, fork};
 
 use crate::auditing::Audit;
-use crate::following::{Basis, Follower, Judgement, copy_item, judge};
+use crate::following::{Basis, Follower, Judgement, judge};
 use crate::replaying::Outcome;
-use mv_calls::{Bytes, Item, OutOfMemory};
+use mv_calls::{Bytes, Item, OutOfMemory, copy_item};
 use mv_history::{Entry, Mark, Status, Update};
 use mv_version::Version;
 use std::alloc::Global;

@@ -7,7 +7,7 @@ ghost use Rattle.mv_audit.specs.Audit.{IsJudged, IsVerdict, came, following_of};
 ghost use Rattle.mv_history.specs.Followers.{begin, replayed_from, rewritten_by};
 
 use crate::replaying::{Outcome, replay};
-use mv_calls::{Item, Or, OutOfMemory, Room, copy_call, copy_reply, suits};
+use mv_calls::{Item, Or, OutOfMemory, copy_item};
 use mv_history::Update;
 use mv_rewrite::{Items, rewrite_whole};
 use mv_rulecheck::{KeptRules, keep_reads};
@@ -50,19 +50,6 @@ pub(crate) enum Judgement<V: Drop> {
     Reverse(RuleFault),
     /// It was replayed.
     Ran(Outcome<V>),
-}
-
-/// An equal item in a place of its own.
-pub(crate) fn copy_item(alloc: Global, item: &Item) -> Result<Item, OutOfMemory>
-    ensures { IfOk result (λ copy. copy ≡ item.now) }
-{
-    let _ = suits(&item.call, &item.reply);
-    let room = Room::make(alloc, &item.call)?;
-    let call = copy_call(alloc, &item.call)?;
-    Ok(Item {
-        call,
-        reply: copy_reply(&item.reply, room),
-    })
 }
 
 /// The items with copies of more behind them.

@@ -1,7 +1,7 @@
 //! Whether two values of a log are equal.
 ghost use Rattle.std.specs.Prelude.{◌≡◌, ◌↔◌, IsTrue};
 
-use mv_calls::{Call, Reply, Trap, fits};
+use mv_calls::{Trap, same_call};
 use mv_history::Why;
 use mv_orders::{Last, OrderReply, Stage, Word};
 use mv_rules::RuleFault;
@@ -62,14 +62,6 @@ pub(crate) fn same_last(one: Last, other: Last) -> bool
     ensures { IsTrue result ↔ (one ≡ other) }
 {
     one == other
-}
-
-/// Whether the two calls are equal.
-#[tactic(auto, using(crate::proofs::SameLaws::done_is_no_read))]
-pub(crate) fn same_call(one: &Call, other: &Call) -> bool
-    ensures { IsTrue result ↔ (one.now ≡ other.now) }
-{
-    fits(one, other, &Reply::Done)
 }
 
 /// Whether the two events are equal.

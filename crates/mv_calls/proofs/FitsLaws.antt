@@ -1,7 +1,7 @@
 -- Equal calls, and that an answer which fits another call suits it.
 use Rattle.std.specs.Prelude.{◌≡◌, ◌⊎◌, ◌↔◌, ℕ, Bool, true, false, ◌&&◌, ◌||◌, ◌==◌, nat_le, List, length, IsTrue, refl}
 use Rattle.std.specs.Bool.{Decides}
-use Rattle.std.proofs.Common.{arith, ap, sym, subst, inl, inr}
+use Rattle.std.proofs.Common.{arith, ap, sym, ◌∙◌, subst, inl, inr}
 use Rattle.std.proofs.lemmas.Bool.Decides.{nat_tests, Decides-eqb}
 use Rattle.std.proofs.lemmas.Slice.Eq.{bytes_eq-Decides, slice_eq-Decides}
 use Rattle.mv_calls.specs.Suits.{suits_of}
@@ -120,3 +120,10 @@ pub fits_means_at : (mine want : Call) (reply : Reply) (r : Bool) → r ≡ fits
 fits_means_at mine want reply r same =
     let P : Bool → Type 0 = λ test. IsTrue test ↔ ((mine ≡ want) ⊎ IsTrue (reads_enough mine want reply)) in
     subst P (sym same) (fits_means mine want reply)
+
+-- the test of two calls decides whether they are equal
+pub same_means_at : (mine want : Call) (r : Bool) → r ≡ is_same_call mine want → IsTrue r ↔ (mine ≡ want)
+same_means_at mine want r same = (
+  (λ h. call_equal mine want (sym same ∙ h)),
+  (λ equal. same ∙ equal_same mine want equal),
+)

@@ -3,7 +3,7 @@ ghost use Rattle.std.specs.Prelude.{◌≡◌, IfOk};
 ghost use Rattle.mv_calls.specs.Places.{Holds, places_in};
 
 use crate::bytes::Bytes;
-use crate::calls::{Call, Reply};
+use crate::calls::{Call, Item, Reply, suits};
 use crate::fault::OutOfMemory;
 use crate::happenings::Happenings;
 use crate::room::Room;
@@ -69,4 +69,17 @@ pub fn copy_reply(reply: &Reply, into: Room) -> Reply
             Reply::Ready(Happenings::from_vec(copy))
         }
     }
+}
+
+/// An equal item in a place of its own. The one error is want of memory.
+pub fn copy_item(alloc: Global, item: &Item) -> Result<Item, OutOfMemory>
+    ensures { IfOk result (λ copy. copy ≡ item.now) }
+{
+    let _ = suits(&item.call, &item.reply);
+    let room = Room::make(alloc, &item.call)?;
+    let call = copy_call(alloc, &item.call)?;
+    Ok(Item {
+        call,
+        reply: copy_reply(&item.reply, room),
+    })
 }

@@ -40,7 +40,16 @@ fn within(reply: &Reply, cap: u32) -> bool
 }
 
 /// Whether the two calls are equal.
-fn same_call(mine: &Call, want: &Call) -> bool
+#[tactic(auto, using(crate::proofs::FitsLaws::same_means_at))]
+pub fn same_call(mine: &Call, want: &Call) -> bool
+    ensures same { result ≡ is_same_call mine.now want.now }
+    ensures means { IsTrue result ↔ (mine.now ≡ want.now) }
+{
+    is_equal(mine, want)
+}
+
+/// Whether the two calls are equal, by their kinds.
+fn is_equal(mine: &Call, want: &Call) -> bool
     ensures { result ≡ is_same_call mine.now want.now }
 {
     match (mine, want) {

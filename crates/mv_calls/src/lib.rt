@@ -17,9 +17,9 @@ mod trap;
 
 pub use bytes::Bytes;
 pub use calls::{Call, Item, Reply, reply_room, suits};
-pub use copies::{copy_call, copy_reply};
+pub use copies::{copy_call, copy_item, copy_reply};
 pub use fault::{Or, OutOfMemory};
-pub use fitting::fits;
+pub use fitting::{fits, same_call};
 pub use happenings::{Happened, Happenings};
 pub use room::Room;
 pub use subs::{Sub, Subs};

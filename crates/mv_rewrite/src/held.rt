@@ -1,7 +1,7 @@
 //! Places for items.
 ghost use Rattle.std.specs.Prelude.{◌≡◌, IfOk};
 
-use mv_calls::{Call, Item, OutOfMemory, Reply, Room, copy_call, copy_reply, suits};
+use mv_calls::{Call, Item, OutOfMemory, Reply, copy_item};
 use std::alloc::Global;
 use std::marker::Model;
 
@@ -50,19 +50,6 @@ impl Held {
         let Held { item } = self;
         item
     }
-}
-
-/// An equal item in a place of its own.
-pub fn copy_item(alloc: Global, item: &Item) -> Result<Item, OutOfMemory>
-    ensures { IfOk result (λ copy. copy ≡ item.now) }
-{
-    let _ = suits(&item.call, &item.reply);
-    let room = Room::make(alloc, &item.call)?;
-    let call = copy_call(alloc, &item.call)?;
-    Ok(Item {
-        call,
-        reply: copy_reply(&item.reply, room),
-    })
 }
 
 /// Equal items in places of their own.

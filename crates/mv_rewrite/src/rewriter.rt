@@ -130,4 +130,13 @@ impl Rewriter {
     {
         self.finished = true;
     }
+
+    /// Begins anew by the same rules: nothing is held, and items may come. It takes no memory.
+    pub fn clear(&mut self)
+        ensures cleared { self.new ≡ record self.old { held = []; finished = false } }
+        ensures stands { Stands self.new [] [] }
+    {
+        self.held.clear();
+        self.finished = false;
+    }
 }

@@ -1,9 +1,8 @@
 ghost use Rattle.mv_rules.specs.Shape.{AreShaped};
 ghost use Rattle.std.specs.Prelude.{◌≡◌};
 
-use crate::held::copy_item;
 use crate::{Rewriter, rewrite_whole};
-use mv_calls::{Bytes, Call, Item, OutOfMemory, Reply};
+use mv_calls::{Bytes, Call, Item, OutOfMemory, Reply, copy_item};
 use mv_rulecheck::{KeptRules, keep_reads};
 use mv_rules::{Rule, parse_rules};
 use std::alloc::Global;

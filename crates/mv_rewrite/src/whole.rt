@@ -5,9 +5,9 @@ ghost use Rattle.mv_rewrite.specs.Deciding.{groups};
 ghost use Rattle.mv_rewrite.specs.Rewriting.{decide};
 
 use crate::decide::{Decision, decide_front};
-use crate::held::{copy_item, hold_all};
+use crate::held::hold_all;
 use crate::items::Items;
-use mv_calls::{Item, OutOfMemory};
+use mv_calls::{Item, OutOfMemory, copy_item};
 use mv_rules::Rule;
 use std::alloc::Global;
 

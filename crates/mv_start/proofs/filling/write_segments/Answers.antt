@@ -1,0 +1,10 @@
+use Rattle.std.proofs.Common.{◌≡◌, ◌∙◌}
+use Rattle.mv_start.specs.Instances.{with_segments}
+use Rattle.mv_start.proofs.Begins.{segment-step}
+use Rattle.mv_start.proofs.filling.write_segments.Goals as goal
+
+pub loop-number-preserved : goal.loop-number-preserved
+loop-number-preserved c = record {
+  parts = c.in_ok-write_segment.ensures.parts ∙ c.loop-number.invariant.parts;
+  whole = segment-step c.args.machine.now.parts c.loop-number.number c.loop-number.machine c.write_segment.new.machine (with_segments c.args.machine.now.parts.segments c.args.machine.now.config) c.loop-number.invariant.parts c.in_ok-write_segment.ensures.ok c.loop-number.invariant.whole;
+}

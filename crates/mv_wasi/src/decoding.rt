@@ -1,0 +1,242 @@
+//! What the call at which a machine stands becomes.
+ghost use Rattle.std.specs.Prelude.{◌≡◌, ℕ, List, [], Some, IfOk, OnErr};
+ghost use Rattle.mv_imports.specs.declared.function.HostFunction.TheVariants as Function;
+ghost use Rattle.mv_wasi.specs.Decoding.{decoded};
+ghost use Rattle.mv_wasi.specs.Machines.{argument_at, made_at, with_bytes, clean};
+ghost use Rattle.mv_wasi.specs.Known.{AreKnown, IsWaitingFor, UnlessLocal};
+
+use crate::calls::{function_of, word};
+use crate::made::{LiveOp, Made};
+use crate::ranges::{
+    TRANSFER_LIMIT, VECTOR_LIMIT, gathered, lies_within, ranges_lie_within, total_of,
+};
+use mv_calls::{Bytes, Call, OutOfMemory, Texts};
+use mv_imports::HostFunction;
+use mv_machine::Machine;
+use mv_memory::Memory;
+use std::alloc::Global;
+
+/// An argument that is out of its range.
+const ERRNO_INVAL: u16 = 28;
+
+/// A range that is out of bounds.
+const ERRNO_FAULT: u16 = 21;
+
+/// `clock_time_get`.
+fn clock_made(memory: &Memory, id: u32, out: u32) -> Made
+    ensures made { result ≡ (decoded Function.ClockTimeGet id 0 out 0 [] memory.now.bytes).0 }
+    ensures left { (decoded Function.ClockTimeGet id 0 out 0 [] memory.now.bytes).1 ≡ memory.now.bytes }
+{
+    if id > 1 {
+        Made::Local(ERRNO_INVAL)
+    } else if lies_within(memory, out, 8) {
+        Made::Outside(Call::Clock { id })
+    } else {
+        Made::Local(ERRNO_FAULT)
+    }
+}
+
+/// `random_get`.
+fn random_made(memory: &Memory, buf: u32, len: u32) -> Made
+    ensures made { result ≡ (decoded Function.RandomGet buf len 0 0 [] memory.now.bytes).0 }
+    ensures left { (decoded Function.RandomGet buf len 0 0 [] memory.now.bytes).1 ≡ memory.now.bytes }
+{
+    if len as usize > TRANSFER_LIMIT {
+        Made::Local(ERRNO_INVAL)
+    } else if lies_within(memory, buf, u64::from(len)) {
+        Made::Outside(Call::Random { len })
+    } else {
+        Made::Local(ERRNO_FAULT)
+    }
+}
+
+/// `fd_fdstat_get`.
+fn stat_made(memory: &Memory, fd: u32, buf: u32) -> Made
+    ensures made { result ≡ (decoded Function.FdFdstatGet fd buf 0 0 [] memory.now.bytes).0 }
+    ensures left { (decoded Function.FdFdstatGet fd buf 0 0 [] memory.now.bytes).1 ≡ memory.now.bytes }
+{
+    if lies_within(memory, buf, 24) {
+        Made::Outside(Call::FdStat { fd })
+    } else {
+        Made::Local(ERRNO_FAULT)
+    }
+}
+
+/// `sock_accept`.
+fn accept_made(memory: &Memory, fd: u32, flags: u32, out: u32) -> Made
+    ensures made { result ≡ (decoded Function.SockAccept fd flags out 0 [] memory.now.bytes).0 }
+    ensures left { (decoded Function.SockAccept fd flags out 0 [] memory.now.bytes).1 ≡ memory.now.bytes }
+{
+    if lies_within(memory, out, 4) {
+        Made::Outside(Call::Accept {
+            fd,
+            flags: (flags % 65_536) as u16,
+        })
+    } else {
+        Made::Local(ERRNO_FAULT)
+    }
+}
+
+/// `sock_shutdown`.
+fn shutdown_made(memory: &Memory, fd: u32, how: u32) -> Made
+    ensures made { result ≡ (decoded Function.SockShutdown fd how 0 0 [] memory.now.bytes).0 }
+    ensures left { (decoded Function.SockShutdown fd how 0 0 [] memory.now.bytes).1 ≡ memory.now.bytes }
+{
+    let _ = memory;
+    if how == 0 || how > 3 {
+        Made::Local(ERRNO_INVAL)
+    } else {
+        Made::Outside(Call::Shutdown { fd, how: how as u8 })
+    }
+}
+
+/// `fd_write`.
+fn write_made(
+    alloc: Global,
+    memory: &Memory,
+    fd: u32,
+    iovs: u32,
+    count: u32,
+    result_at: u32,
+) -> Result<Made, OutOfMemory>
+    ensures made { IfOk result (λ made. made ≡ (decoded Function.FdWrite fd iovs count result_at [] memory.now.bytes).0) }
+    ensures left { (decoded Function.FdWrite fd iovs count result_at [] memory.now.bytes).1 ≡ memory.now.bytes }
+{
+    if count > VECTOR_LIMIT {
+        return Ok(Made::Local(ERRNO_INVAL));
+    }
+    if !ranges_lie_within(memory, iovs, count, result_at) {
+        return Ok(Made::Local(ERRNO_FAULT));
+    }
+    let bytes = Bytes::from_vec(gathered(alloc, memory, iovs, count)?);
+    Ok(Made::Outside(Call::Write { fd, bytes }))
+}
+
+/// `fd_read`.
+fn read_made(memory: &Memory, fd: u32, iovs: u32, count: u32, result_at: u32) -> Made
+    ensures made { result ≡ (decoded Function.FdRead fd iovs count result_at [] memory.now.bytes).0 }
+    ensures left { (decoded Function.FdRead fd iovs count result_at [] memory.now.bytes).1 ≡ memory.now.bytes }
+{
+    if count > VECTOR_LIMIT {
+        Made::Local(ERRNO_INVAL)
+    } else if ranges_lie_within(memory, iovs, count, result_at) {
+        Made::Outside(Call::Read {
+            fd,
+            cap: total_of(memory, iovs, count),
+        })
+    } else {
+        Made::Local(ERRNO_FAULT)
+    }
+}
+
+/// What the call of a function on descriptors becomes, which writes nothing.
+fn decode_descriptor(
+    alloc: Global,
+    machine: &Machine,
+    function: HostFunction,
+) -> Result<Made, OutOfMemory>
+    requires waits { IsWaitingFor machine.now function }
+    ensures made { IfOk result (λ made. (texts : List (List ℕ)) → made ≡ (decoded function (argument_at machine.now.parts machine.now.config 0) (argument_at machine.now.parts machine.now.config 1) (argument_at machine.now.parts machine.now.config 2) (argument_at machine.now.parts machine.now.config 3) texts machine.now.config.store.memory.bytes).0) }
+    ensures left { IfOk result (λ made. (texts : List (List ℕ)) → (decoded function (argument_at machine.now.parts machine.now.config 0) (argument_at machine.now.parts machine.now.config 1) (argument_at machine.now.parts machine.now.config 2) (argument_at machine.now.parts machine.now.config 3) texts machine.now.config.store.memory.bytes).1 ≡ machine.now.config.store.memory.bytes) }
+{
+    let memory = machine.memory();
+    match function {
+        HostFunction::FdRead => Ok(read_made(
+            memory,
+            word(machine, function, 0),
+            word(machine, function, 1),
+            word(machine, function, 2),
+            word(machine, function, 3),
+        )),
+        HostFunction::FdWrite => write_made(
+            alloc,
+            memory,
+            word(machine, function, 0),
+            word(machine, function, 1),
+            word(machine, function, 2),
+            word(machine, function, 3),
+        ),
+        HostFunction::FdFdstatGet => Ok(stat_made(
+            memory,
+            word(machine, function, 0),
+            word(machine, function, 1),
+        )),
+        HostFunction::SockAccept => Ok(accept_made(
+            memory,
+            word(machine, function, 0),
+            word(machine, function, 1),
+            word(machine, function, 2),
+        )),
+        HostFunction::SockShutdown => Ok(shutdown_made(
+            memory,
+            word(machine, function, 0),
+            word(machine, function, 1),
+        )),
+        HostFunction::ClockTimeGet => Ok(clock_made(
+            memory,
+            word(machine, function, 0),
+            word(machine, function, 2),
+        )),
+        HostFunction::RandomGet => Ok(random_made(
+            memory,
+            word(machine, function, 0),
+            word(machine, function, 1),
+        )),
+        _ => Err(OutOfMemory),
+    }
+}
+
+/// What the call of this function becomes, which writes nothing.
+fn decode_call(
+    alloc: Global,
+    machine: &Machine,
+    function: HostFunction,
+) -> Result<Made, OutOfMemory>
+    requires waits { IsWaitingFor machine.now function }
+    ensures made { IfOk result (λ made. (texts : List (List ℕ)) → made ≡ (decoded function (argument_at machine.now.parts machine.now.config 0) (argument_at machine.now.parts machine.now.config 1) (argument_at machine.now.parts machine.now.config 2) (argument_at machine.now.parts machine.now.config 3) texts machine.now.config.store.memory.bytes).0) }
+    ensures left { IfOk result (λ made. (texts : List (List ℕ)) → (decoded function (argument_at machine.now.parts machine.now.config 0) (argument_at machine.now.parts machine.now.config 1) (argument_at machine.now.parts machine.now.config 2) (argument_at machine.now.parts machine.now.config 3) texts machine.now.config.store.memory.bytes).1 ≡ machine.now.config.store.memory.bytes) }
+{
+    match function {
+        HostFunction::FdClose => Ok(Made::Outside(Call::Close {
+            fd: word(machine, function, 0),
+        })),
+        HostFunction::SchedYield => Ok(Made::Outside(Call::Yield)),
+        HostFunction::FdSeek => Ok(Made::Local(70)),
+        HostFunction::FdPrestatGet => Ok(Made::Local(8)),
+        HostFunction::FdPrestatDirName => Ok(Made::Local(8)),
+        HostFunction::ProcExit => Ok(Made::Exit(word(machine, function, 0))),
+        HostFunction::Point => Ok(Made::Point),
+        HostFunction::OldPages => Ok(Made::Live(LiveOp::Pages)),
+        HostFunction::OldRead => Ok(Made::Live(LiveOp::Read {
+            src: word(machine, function, 0),
+            dst: word(machine, function, 1),
+            len: word(machine, function, 2),
+        })),
+        HostFunction::OldGlobal => Ok(Made::Live(LiveOp::Global {
+            n: word(machine, function, 0),
+        })),
+        _ => decode_descriptor(alloc, machine, function),
+    }
+}
+
+/// What the call of this import becomes, at which the machine stands. For want of memory nothing changes, but for which pages
+/// are owned.
+pub fn decode(
+    alloc: Global,
+    machine: &mut Machine,
+    import: u32,
+    _args: &Texts,
+) -> Result<Made, OutOfMemory>
+    requires waits { machine.old.config.waiting ≡ Some import }
+    requires known { AreKnown machine.old.parts }
+    ensures made { IfOk result (λ made. made ≡ (made_at machine.old.parts _args.now import machine.old.config).0) }
+    ensures left { IfOk result (λ made. clean machine.new.config ≡ clean (with_bytes (made_at machine.old.parts _args.now import machine.old.config).1 machine.old.config)) }
+    ensures kept { IfOk result (λ made. UnlessLocal made (clean machine.new.config ≡ clean machine.old.config)) }
+    ensures parts { machine.new.parts ≡ machine.old.parts }
+    ensures err { OnErr result (clean machine.new.config ≡ clean machine.old.config) }
+{
+    match function_of(machine, import) {
+        None => Ok(Made::Live(LiveOp::Pages)),
+        Some(function) => decode_call(alloc, machine, function),
+    }
+}
