@@ -10,10 +10,11 @@ use Rattle.mv_rules.specs.declared.reading.Phase.TheVariants.{Outside, InLeft, I
 use Rattle.mv_rules.specs.declared.reading.Reading.{Reading}
 use Rattle.mv_rules.specs.declared.line.Line.{Line}
 use Rattle.mv_rules.specs.declared.line.Line.TheVariants as lines
-use Rattle.mv_rules.specs.Words.{words_of}
+use Rattle.mv_scan.specs.Words.{words_of}
 use Rattle.mv_rules.specs.Drafts.{IsDraft}
 use Rattle.mv_rules.specs.Shape.{AreShaped}
-use Rattle.mv_rules.specs.RulesText.{rules_in, read_file, read_body, read_lines, read_line, lines_of, version_of, unread, unless, first_fault, faults_on, after_line, ended, and_then, is_outside, fault_at, line_of, lengths_stand}
+use Rattle.mv_rules.specs.RulesText.{rules_in, read_file, read_body, read_lines, read_line, version_of, unread, unless, first_fault, faults_on, after_line, ended, and_then, is_outside, fault_at, line_of, lengths_stand}
+use Rattle.mv_scan.specs.Lines.{lines_of}
 use Rattle.mv_rules.proofs.DraftSteps.{draft_read, shaped_more}
 use Rattle.mv_rulecheck.specs.Atoms.{AreKept, IsKept, IsUnkept, IsFirstUnkept}
 use Rattle.mv_history.specs.Rules.{IsAccepted, IsRefused, rules_of, or_none}

@@ -9,20 +9,20 @@ use Rattle.mv_rules.specs.declared.rule.Pattern.{Pattern}
 use Rattle.mv_rules.specs.declared.rule.Guard.{Guard}
 use Rattle.mv_rules.specs.declared.rule.Rule.{Rule}
 use Rattle.mv_rules.specs.declared.fault.RuleKind.{RuleKind}
-use Rattle.mv_rules.specs.declared.found.Found.{Found}
-use Rattle.mv_rules.specs.declared.found.Found.TheVariants.{Other, OutOfRange, Is}
+use Rattle.mv_scan.specs.declared.found.Found.{Found}
+use Rattle.mv_scan.specs.declared.found.Found.TheVariants.{Other, OutOfRange, Is}
 use Rattle.mv_rules.specs.declared.line.Line.{Line}
 use Rattle.mv_rules.specs.declared.line.Line.TheVariants as lines
 use Rattle.mv_rules.specs.declared.reading.Phase.{Phase}
 use Rattle.mv_rules.specs.declared.reading.Phase.TheVariants.{Outside, InLeft, InRight}
 use Rattle.mv_rules.specs.declared.reading.Reading.{Reading}
-use Rattle.mv_rules.specs.declared.token.Token.{Token}
+use Rattle.mv_scan.specs.declared.token.Token.{Token}
 use Rattle.mv_rules.specs.Shape.{errno_counts, IsShaped, AreShaped}
 use Rattle.mv_rules.specs.Drafts.{IsDraft, Counts, LineCounts}
 use Rattle.mv_rules.specs.declared.fault.RuleFault.{RuleFault}
 use Rattle.mv_rules.specs.declared.reading.Version.{Version}
-use Rattle.mv_rules.specs.Words.{words_of}
-use Rattle.mv_rules.specs.Found.{holds}
+use Rattle.mv_scan.specs.Words.{words_of}
+use Rattle.mv_scan.specs.Found.{holds}
 use Rattle.mv_rules.proofs.ErrnoCounts.{line_counts}
 use Rattle.mv_rules.specs.RulesText.{read_line, lengths_stand, line_of, unless, is_full, is_bad_guard_in, first_fault, faults_on, after_line, is_empty_left, with_item, with_guard, turned, ended}
 

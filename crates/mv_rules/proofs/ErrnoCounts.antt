@@ -5,14 +5,15 @@ use Rattle.std.specs.Prelude.{Option, nat_le, nat_lt, if◌then◌else◌, codes
 use Rattle.std.specs.Str.{bytes_eq}
 use Rattle.mv_rules.specs.declared.rule.Pattern.{Pattern}
 use Rattle.mv_rules.specs.declared.rule.Pattern.TheVariants as patterns
-use Rattle.mv_rules.specs.declared.token.Token.{Token}
-use Rattle.mv_rules.specs.declared.token.Token.TheVariants.{Plain, Quoted, Glued}
+use Rattle.mv_scan.specs.declared.token.Token.{Token}
+use Rattle.mv_scan.specs.declared.token.Token.TheVariants.{Plain, Quoted, Glued}
 use Rattle.mv_rules.specs.declared.verb.Verb.{Verb}
 use Rattle.mv_rules.specs.declared.verb.Verb.TheVariants as verbs
-use Rattle.mv_rules.specs.declared.found.Found.{Found}
-use Rattle.mv_rules.specs.declared.found.Found.TheVariants.{Other, OutOfRange, Is}
-use Rattle.mv_rules.specs.Found.{found_map, pair, only_if}
-use Rattle.mv_rules.specs.Forms.{in_range, number_of, decimal, errno_in, verb_of, fd_of, parts_of, lone_fd, lone_time, is_errno, read_form, write_form, accept_form, close_form, shutdown_form, yield_form, clock_form, random_form, form_of, item_at, item_of}
+use Rattle.mv_scan.specs.declared.found.Found.{Found}
+use Rattle.mv_scan.specs.declared.found.Found.TheVariants.{Other, OutOfRange, Is}
+use Rattle.mv_scan.specs.Found.{found_map, pair, only_if}
+use Rattle.mv_rules.specs.Forms.{errno_in, verb_of, fd_of, parts_of, lone_fd, lone_time, is_errno, read_form, write_form, accept_form, close_form, shutdown_form, yield_form, clock_form, random_form, form_of, item_at, item_of}
+use Rattle.mv_scan.specs.Numbers.{in_range, number_of, decimal}
 use Rattle.mv_rules.specs.Shape.{errno_counts}
 use Rattle.mv_rules.specs.declared.line.Line.{Line}
 use Rattle.mv_rules.specs.declared.line.Line.TheVariants as lines

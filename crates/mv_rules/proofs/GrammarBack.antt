@@ -8,8 +8,8 @@ use Rattle.mv_rules.specs.declared.rule.Guard.{Guard}
 use Rattle.mv_rules.specs.declared.rule.Rule.{Rule}
 use Rattle.mv_rules.specs.declared.rule.Comparison.{Comparison}
 use Rattle.mv_rules.specs.declared.rule.Comparison.TheVariants.{Equal, Less, Greater}
-use Rattle.mv_rules.specs.declared.found.Found.{Found}
-use Rattle.mv_rules.specs.declared.found.Found.TheVariants.{Is}
+use Rattle.mv_scan.specs.declared.found.Found.{Found}
+use Rattle.mv_scan.specs.declared.found.Found.TheVariants.{Is}
 use Rattle.mv_rules.specs.declared.line.Line.{Line}
 use Rattle.mv_rules.specs.declared.line.Line.TheVariants as lines
 use Rattle.mv_rules.specs.declared.reading.Version.{Version}
@@ -17,16 +17,20 @@ use Rattle.mv_rules.specs.declared.reading.Version.TheVariants.{First, Second}
 use Rattle.mv_rules.specs.declared.reading.Phase.{Phase}
 use Rattle.mv_rules.specs.declared.reading.Phase.TheVariants.{Outside, InLeft, InRight}
 use Rattle.mv_rules.specs.declared.reading.Reading.{Reading}
-use Rattle.mv_rules.specs.declared.token.Token.{Token}
-use Rattle.mv_rules.specs.declared.token.Token.TheVariants.{Plain}
+use Rattle.mv_scan.specs.declared.token.Token.{Token}
+use Rattle.mv_scan.specs.declared.token.Token.TheVariants.{Plain}
 use Rattle.mv_rules.specs.declared.verb.Verb.{Verb}
 use Rattle.mv_rules.specs.declared.verb.Verb.TheVariants as verbs
-use Rattle.mv_rules.specs.Found.{found_map, pair, is_other}
-use Rattle.mv_rules.specs.Forms.{item_of, guard_of, guard_made, byte_name_of, comparison_of, number_of, part_of}
-use Rattle.mv_rules.specs.Names.{is_name, has_good_names, rest_is_last, parts_in, is_sized, is_all_bound, bytes_are_bound}
-use Rattle.mv_rules.specs.RulesText.{is_bad_text, line_of, part_count, lengths_stand}
+use Rattle.mv_scan.specs.Found.{found_map, pair, is_other}
+use Rattle.mv_rules.specs.Forms.{item_of, guard_of, guard_made, byte_name_of, comparison_of, part_of}
+use Rattle.mv_scan.specs.Numbers.{number_of}
+use Rattle.mv_rules.specs.Names.{has_good_names, rest_is_last, parts_in, is_sized, is_all_bound, bytes_are_bound}
+use Rattle.mv_scan.specs.Names.{is_name}
+use Rattle.mv_rules.specs.RulesText.{line_of, part_count, lengths_stand}
+use Rattle.mv_scan.specs.Words.{is_bad_text}
 use Rattle.mv_rules.specs.ItemGrammar.{Side, Left, Right, SpellsGuard, sign_of}
-use Rattle.mv_rules.proofs.GrammarTerms.{lengths_on, number_found}
+use Rattle.mv_rules.proofs.GrammarTerms.{lengths_on}
+use Rattle.mv_scan.proofs.NumberLaws.{number_found}
 use Rattle.mv_rules.proofs.GrammarItems.{word_of}
 use Rattle.mv_rules.proofs.GrammarGiven.{IsGiven, item_given, pair_found, and_true, or_false}
 use Rattle.mv_rules.proofs.GrammarSteps.{Leaves}

@@ -8,19 +8,23 @@ use Rattle.mv_rules.specs.declared.rule.TimeTerm.{TimeTerm}
 use Rattle.mv_rules.specs.declared.rule.Part.{Part}
 use Rattle.mv_rules.specs.declared.rule.Pattern.{Pattern}
 use Rattle.mv_rules.specs.declared.rule.Pattern.TheVariants as patterns
-use Rattle.mv_rules.specs.declared.token.Token.{Token}
-use Rattle.mv_rules.specs.declared.token.Token.TheVariants.{Plain}
+use Rattle.mv_scan.specs.declared.token.Token.{Token}
+use Rattle.mv_scan.specs.declared.token.Token.TheVariants.{Plain}
 use Rattle.mv_rules.specs.declared.verb.Verb.{Verb}
 use Rattle.mv_rules.specs.declared.verb.Verb.TheVariants as verbs
-use Rattle.mv_rules.specs.declared.found.Found.{Found}
-use Rattle.mv_rules.specs.declared.found.Found.TheVariants.{Is}
-use Rattle.mv_rules.specs.Found.{found_map, pair}
-use Rattle.mv_rules.specs.Forms.{number_of, fd_of, time_of, parts_of, is_word, is_errno, errno_in, lone_fd, form_of, item_at, item_of}
-use Rattle.mv_rules.specs.Names.{is_name, fd_name_passes, time_name_passes, part_name_passes}
+use Rattle.mv_scan.specs.declared.found.Found.{Found}
+use Rattle.mv_scan.specs.declared.found.Found.TheVariants.{Is}
+use Rattle.mv_scan.specs.Found.{found_map, pair}
+use Rattle.mv_rules.specs.Forms.{fd_of, time_of, parts_of, is_errno, errno_in, lone_fd, form_of, item_at, item_of}
+use Rattle.mv_scan.specs.Numbers.{number_of}
+use Rattle.mv_scan.specs.Words.{is_word}
+use Rattle.mv_rules.specs.Names.{fd_name_passes, time_name_passes, part_name_passes}
+use Rattle.mv_scan.specs.Names.{is_name}
 use Rattle.mv_rules.specs.RulesText.{part_count}
 use Rattle.mv_rules.specs.ItemGrammar.{Side, Left, Right, arrow, SpellsFd, SpellsBytes, SpellsErrno, SpellsItem, MayStand}
-use Rattle.mv_rules.proofs.GrammarFinds.{position_at}
-use Rattle.mv_rules.proofs.GrammarTerms.{lengths_on, number_found, fd_found, fd_good, time_found, time_good}
+use Rattle.mv_scan.proofs.GrammarFinds.{position_at}
+use Rattle.mv_rules.proofs.GrammarTerms.{lengths_on, fd_found, fd_good, time_found, time_good}
+use Rattle.mv_scan.proofs.NumberLaws.{number_found}
 use Rattle.mv_rules.proofs.GrammarWords.{errno_word, errno_found, fd_no_errno, IsNeutral, number_neutral, fd_neutral, time_neutral, Weighs, weighs_nothing, weighs_neutral, weighs_parts, IsClean, AreUnsized, bytes_found, bytes_good, bytes_unsized, parts_no_arrow, bytes_no_errno}
 use Rattle.mv_rules.proofs.GrammarItems.{IsGood, word_of}
 

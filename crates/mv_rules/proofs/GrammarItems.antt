@@ -7,18 +7,23 @@ use Rattle.mv_rules.specs.declared.rule.TimeTerm.{TimeTerm}
 use Rattle.mv_rules.specs.declared.rule.Part.{Part}
 use Rattle.mv_rules.specs.declared.rule.Pattern.{Pattern}
 use Rattle.mv_rules.specs.declared.rule.Pattern.TheVariants as patterns
-use Rattle.mv_rules.specs.declared.token.Token.{Token}
-use Rattle.mv_rules.specs.declared.token.Token.TheVariants.{Plain}
+use Rattle.mv_scan.specs.declared.token.Token.{Token}
+use Rattle.mv_scan.specs.declared.token.Token.TheVariants.{Plain}
 use Rattle.mv_rules.specs.declared.verb.Verb.{Verb}
 use Rattle.mv_rules.specs.declared.verb.Verb.TheVariants as verbs
-use Rattle.mv_rules.specs.declared.found.Found.TheVariants.{Other, Is}
-use Rattle.mv_rules.specs.Found.{found_map, pair, only_if}
-use Rattle.mv_rules.specs.Forms.{number_of, fd_of, time_of, parts_of, is_word, is_lone_word, is_errno, errno_in, lone_fd, lone_time, read_form, write_form, accept_form, close_form, shutdown_form, yield_form, clock_form, random_form, form_of, item_at, item_of}
-use Rattle.mv_rules.specs.Names.{is_name, has_good_names, parts_in, fd_name_passes, time_name_passes, part_name_passes}
+use Rattle.mv_scan.specs.declared.found.Found.TheVariants.{Other, Is}
+use Rattle.mv_scan.specs.Found.{found_map, pair, only_if}
+use Rattle.mv_rules.specs.Forms.{fd_of, time_of, parts_of, is_errno, errno_in, lone_fd, lone_time, read_form, write_form, accept_form, close_form, shutdown_form, yield_form, clock_form, random_form, form_of, item_at, item_of}
+use Rattle.mv_scan.specs.Numbers.{number_of}
+use Rattle.mv_scan.specs.Words.{is_word, is_lone_word}
+use Rattle.mv_rules.specs.Names.{has_good_names, parts_in, fd_name_passes, time_name_passes, part_name_passes}
+use Rattle.mv_scan.specs.Names.{is_name}
 use Rattle.mv_rules.specs.ItemGrammar.{Side, arrow, SpellsFd, SpellsItem, MayStand}
-use Rattle.mv_rules.proofs.GrammarFinds.{both_true, by_if, by_map, pair_is, only_is, position_is}
-use Rattle.mv_rules.proofs.GrammarTerms.{lengths_on, number_is, fd_is, time_is}
-use Rattle.mv_rules.proofs.GrammarWords.{is_word_is, lone_is, errno_is, IsClean, clean_tail, clean_front, AreUnsized, bytes_is}
+use Rattle.mv_scan.proofs.GrammarFinds.{both_true, by_if, by_map, pair_is, only_is, position_is}
+use Rattle.mv_rules.proofs.GrammarTerms.{lengths_on, fd_is, time_is}
+use Rattle.mv_scan.proofs.NumberLaws.{number_is}
+use Rattle.mv_rules.proofs.GrammarWords.{errno_is, IsClean, clean_tail, clean_front, AreUnsized, bytes_is}
+use Rattle.mv_scan.proofs.TokenLaws.{is_word_is, lone_is}
 
 -- an item with names of the form, and parts that may stand on the side
 pub record IsGood (side : Side) (pattern : Pattern) : Type 0 where

@@ -15,8 +15,9 @@ use Rattle.mv_rules.specs.declared.reading.Version.TheVariants.{First, Second}
 use Rattle.mv_rules.specs.declared.reading.Phase.{Phase}
 use Rattle.mv_rules.specs.declared.reading.Phase.TheVariants.{Outside, InLeft, InRight}
 use Rattle.mv_rules.specs.declared.reading.Reading.{Reading}
-use Rattle.mv_rules.specs.Words.{words_of}
-use Rattle.mv_rules.specs.RulesText.{and_then, at_end, fault_at, faults_on, first_fault, after_line, unless, line_of, lines_of, lengths_stand, read_line, read_lines, read_body, read_file, rules_in, unread, version_of}
+use Rattle.mv_scan.specs.Words.{words_of}
+use Rattle.mv_rules.specs.RulesText.{and_then, at_end, fault_at, faults_on, first_fault, after_line, unless, line_of, lengths_stand, read_line, read_lines, read_body, read_file, rules_in, unread, version_of}
+use Rattle.mv_scan.specs.Lines.{lines_of}
 use Rattle.mv_rules.specs.Grammar.{SpellsLeftItem, header, HasHeader, Spells, CanGoOn, CannotGoOn, StopsAt, EndsEarly, IsFirstFaultyLine}
 use Rattle.mv_rules.proofs.GrammarSteps.{leaves_given}
 use Rattle.mv_rules.proofs.GrammarPhases.{reading_of, Step}

@@ -6,25 +6,26 @@ use Rattle.std.specs.List.{list_any}
 use Rattle.mv_rules.specs.declared.rule.Pattern.{Pattern}
 use Rattle.mv_rules.specs.declared.rule.Guard.{Guard}
 use Rattle.mv_rules.specs.declared.rule.Rule.{Rule}
-use Rattle.mv_rules.specs.declared.found.Found.{Found}
-use Rattle.mv_rules.specs.declared.found.Found.TheVariants.{Other, OutOfRange, Is}
+use Rattle.mv_scan.specs.declared.found.Found.{Found}
+use Rattle.mv_scan.specs.declared.found.Found.TheVariants.{Other, OutOfRange, Is}
 use Rattle.mv_rules.specs.declared.line.Line.TheVariants as lines
 use Rattle.mv_rules.specs.declared.reading.Version.{Version}
 use Rattle.mv_rules.specs.declared.reading.Version.TheVariants.{First, Second}
 use Rattle.mv_rules.specs.declared.reading.Phase.{Phase}
 use Rattle.mv_rules.specs.declared.reading.Phase.TheVariants.{Outside, InLeft, InRight}
 use Rattle.mv_rules.specs.declared.reading.Reading.{Reading}
-use Rattle.mv_rules.specs.declared.token.Token.{Token}
-use Rattle.mv_rules.specs.declared.token.Token.TheVariants.{Plain}
+use Rattle.mv_scan.specs.declared.token.Token.{Token}
+use Rattle.mv_scan.specs.declared.token.Token.TheVariants.{Plain}
 use Rattle.mv_rules.specs.declared.verb.Verb.{Verb}
-use Rattle.mv_rules.specs.Found.{is_other, is_out_of_range}
+use Rattle.mv_scan.specs.Found.{is_other, is_out_of_range}
 use Rattle.mv_rules.specs.Forms.{item_of, guard_of}
-use Rattle.mv_rules.specs.Names.{is_name, has_good_names, rest_is_last, parts_in, is_sized, is_all_bound, bytes_are_bound}
+use Rattle.mv_rules.specs.Names.{has_good_names, rest_is_last, parts_in, is_sized, is_all_bound, bytes_are_bound}
+use Rattle.mv_scan.specs.Names.{is_name}
 use Rattle.mv_rules.specs.RulesText.{begun, line_of, has_words, part_count, lengths_stand, is_full}
 use Rattle.mv_rules.specs.ItemGrammar.{Side, Left, Right, SpellsItem, SpellsGuard}
 use Rattle.mv_rules.specs.Grammar.{SpellsLeftItem, SpellsLeftGuard, SpellsRightItem}
 use Rattle.mv_rules.proofs.DraftSteps.{below}
-use Rattle.mv_rules.proofs.GrammarFinds.{both_true, both_false}
+use Rattle.mv_scan.proofs.GrammarFinds.{both_true, both_false}
 use Rattle.mv_rules.proofs.GrammarTerms.{lengths_on}
 use Rattle.mv_rules.proofs.GrammarWords.{IsClean, clean_tail}
 use Rattle.mv_rules.proofs.GrammarItems.{IsGood, word_of, item_is}

@@ -9,24 +9,27 @@ use Rattle.mv_rules.specs.declared.rule.Guard.{Guard}
 use Rattle.mv_rules.specs.declared.rule.Comparison.{Comparison}
 use Rattle.mv_rules.specs.declared.rule.Comparison.TheVariants.{Equal, Less, Greater}
 use Rattle.mv_rules.specs.declared.fault.RuleKind.{RuleKind}
-use Rattle.mv_rules.specs.declared.found.Found.TheVariants.{Other, Is}
+use Rattle.mv_scan.specs.declared.found.Found.TheVariants.{Other, Is}
 use Rattle.mv_rules.specs.declared.line.Line.{Line}
 use Rattle.mv_rules.specs.declared.line.Line.TheVariants as lines
 use Rattle.mv_rules.specs.declared.reading.Version.{Version}
 use Rattle.mv_rules.specs.declared.reading.Version.TheVariants.{First, Second}
 use Rattle.mv_rules.specs.declared.reading.Reading.{Reading}
-use Rattle.mv_rules.specs.declared.token.Token.{Token}
-use Rattle.mv_rules.specs.declared.token.Token.TheVariants.{Plain, Quoted, Glued}
+use Rattle.mv_scan.specs.declared.token.Token.{Token}
+use Rattle.mv_scan.specs.declared.token.Token.TheVariants.{Plain, Quoted, Glued}
 use Rattle.mv_rules.specs.declared.verb.Verb.{Verb}
-use Rattle.mv_rules.specs.Found.{pair}
-use Rattle.mv_rules.specs.Forms.{is_word, number_of, verb_of, item_of, guard_of, guard_made, byte_name_of, comparison_of}
-use Rattle.mv_rules.specs.Names.{is_name}
-use Rattle.mv_rules.specs.RulesText.{is_misplaced, is_excess, is_empty_left, is_formless, is_unfit, is_bad_text, is_misnamed, is_twice, is_unbound, is_bad_guard, faults_on, first_fault, unless, read_words, after_line, line_of, line_under, item_line, guard_line, has_words}
-use Rattle.mv_rules.specs.ItemGrammar.{SpellsGuard, SpellsName, sign_of}
+use Rattle.mv_scan.specs.Found.{pair}
+use Rattle.mv_rules.specs.Forms.{verb_of, item_of, guard_of, guard_made, byte_name_of, comparison_of}
+use Rattle.mv_scan.specs.Words.{is_word, is_bad_text}
+use Rattle.mv_scan.specs.Numbers.{number_of}
+use Rattle.mv_scan.specs.Names.{is_name}
+use Rattle.mv_rules.specs.RulesText.{is_misplaced, is_excess, is_empty_left, is_formless, is_unfit, is_misnamed, is_twice, is_unbound, is_bad_guard, faults_on, first_fault, unless, read_words, after_line, line_of, line_under, item_line, guard_line, has_words}
+use Rattle.mv_rules.specs.ItemGrammar.{SpellsGuard, sign_of}
+use Rattle.mv_scan.specs.WordGrammar.{SpellsName}
 use Rattle.mv_rules.proofs.DraftSteps.{AllFalse, clean_all}
-use Rattle.mv_rules.proofs.GrammarFinds.{by_if, by_map, pair_is}
-use Rattle.mv_rules.proofs.GrammarTerms.{number_is}
-use Rattle.mv_rules.proofs.GrammarWords.{is_word_is}
+use Rattle.mv_scan.proofs.GrammarFinds.{by_if, by_map, pair_is}
+use Rattle.mv_scan.proofs.NumberLaws.{number_is}
+use Rattle.mv_scan.proofs.TokenLaws.{is_word_is}
 use Rattle.mv_rules.proofs.GrammarItems.{word_of}
 
 -- ## No fault of the table

@@ -13,49 +13,26 @@ use Rattle.mv_rules.specs.declared.rule.Part.{Part}
 use Rattle.mv_rules.specs.declared.rule.Part.TheVariants.{Text, Sized, Named, Length}
 use Rattle.mv_rules.specs.declared.reading.Version.{Version}
 use Rattle.mv_rules.specs.declared.reading.Version.TheVariants.{First, Second}
-use Rattle.mv_rules.specs.declared.token.Token.{Token}
-use Rattle.mv_rules.specs.declared.token.Token.TheVariants.{Plain, Quoted, Glued}
-use Rattle.mv_rules.specs.declared.found.Found.{Found}
-use Rattle.mv_rules.specs.declared.found.Found.TheVariants.{Other, OutOfRange, Is}
-use Rattle.mv_rules.specs.Found.{found_map}
-use Rattle.mv_rules.specs.Forms.{is_digit, decimal, decimal_from, in_range, number_of, fd_of, fd_in_word, time_of, time_in_word, sized_as, named_at, part_in_word, part_of}
-use Rattle.mv_rules.specs.Names.{is_name, is_name_byte, is_lower, fd_name_passes, time_name_passes, part_name_passes, is_sized}
-use Rattle.mv_rules.specs.RulesText.{is_bad_text}
-use Rattle.mv_rules.specs.ItemGrammar.{Side, Left, Right, SpellsNumber, SpellsName, SpellsFd, SpellsTime, SpellsSized, SpellsPart}
-use Rattle.mv_rules.proofs.GrammarFinds.{both_true, by_if, by_map, range_is, range_of, position_is, position_at, position_none}
+use Rattle.mv_scan.specs.declared.token.Token.{Token}
+use Rattle.mv_scan.specs.declared.token.Token.TheVariants.{Plain, Quoted, Glued}
+use Rattle.mv_scan.specs.declared.found.Found.{Found}
+use Rattle.mv_scan.specs.declared.found.Found.TheVariants.{Other, OutOfRange, Is}
+use Rattle.mv_scan.specs.Found.{found_map}
+use Rattle.mv_rules.specs.Forms.{fd_of, fd_in_word, time_of, time_in_word, sized_as, named_at, part_in_word, part_of}
+use Rattle.mv_scan.specs.Numbers.{is_digit, decimal, decimal_from, in_range, number_of}
+use Rattle.mv_rules.specs.Names.{fd_name_passes, time_name_passes, part_name_passes, is_sized}
+use Rattle.mv_scan.specs.Names.{is_name, is_name_byte, is_lower}
+use Rattle.mv_scan.specs.Words.{is_bad_text}
+use Rattle.mv_rules.specs.ItemGrammar.{Side, Left, Right, SpellsFd, SpellsTime, SpellsSized, SpellsPart}
+use Rattle.mv_scan.specs.WordGrammar.{SpellsNumber, SpellsName}
+use Rattle.mv_scan.proofs.GrammarFinds.{both_true, by_if, by_map, range_is, range_of, position_is, position_at, position_none}
+use Rattle.mv_scan.proofs.NumberLaws.{number_is, first_digit, below_digits}
 
 -- whether a `#name` is a part on this side
 abbrev pub lengths_on : Side → Bool
 lengths_on Left = false
 lengths_on (Right First) = false
 lengths_on (Right Second) = true
-
--- ## Numbers
-
-pub number_is : (low high n : ℕ) (token : Token) → number_of low high token ≡ Is n → SpellsNumber low high n token
-number_is low high n (Plain word) is =
-    let t = range_is low high n (decimal word) is in
-    record { digits = word; written = refl; value = t.0; from = t.1.0; to = t.1.1 }
-number_is low high n (Quoted text) is = cc
-number_is low high n Glued is = cc
-
-pub number_found : (low high n : ℕ) (token : Token) → SpellsNumber low high n token → number_of low high token ≡ Is n
-number_found low high n token s = rw s.written (range_of low high n (decimal s.digits) s.value s.from s.to)
-
-some_by : (b : Bool) (m n : ℕ) → (if b then Some m else None) ≡ Some n → b ≡ true
-some_by true m n h = refl
-some_by false m n h = cc
-
-pub first_digit : (b n : ℕ) (bytes : List ℕ) → decimal (b ∷ bytes) ≡ Some n → is_digit b ≡ true
-first_digit b n bytes h =
-    let all : list_all is_digit (b ∷ bytes) ≡ true = some_by (list_all is_digit (b ∷ bytes)) (decimal_from 0 (b ∷ bytes)) n h in
-    (both_true (is_digit b) (list_all is_digit bytes) all).0
-
-pub below_digits : (b c : ℕ) → is_digit b ≡ true → c < 48 → (b == c) ≡ false
-below_digits b c h lt = let t = both_true (nat_le 48 b) (nat_le b 57) h in grind (arith, nat_tests, t.0, t.1)
-
-pub above_digits : (b c : ℕ) → is_digit b ≡ true → 57 < c → (b == c) ≡ false
-above_digits b c h lt = let t = both_true (nat_le 48 b) (nat_le b 57) h in grind (arith, nat_tests, t.0, t.1)
 
 -- ## Terms
 

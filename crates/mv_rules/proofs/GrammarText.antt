@@ -9,10 +9,10 @@ use Rattle.mv_rules.specs.declared.reading.Version.{Version}
 use Rattle.mv_rules.specs.declared.reading.Phase.{Phase}
 use Rattle.mv_rules.specs.declared.reading.Phase.TheVariants.{Outside, InLeft, InRight}
 use Rattle.mv_rules.specs.declared.reading.Reading.{Reading}
-use Rattle.mv_rules.specs.declared.token.Token.{Token}
+use Rattle.mv_scan.specs.declared.token.Token.{Token}
 use Rattle.mv_rules.specs.Shape.{IsShaped}
 use Rattle.mv_rules.specs.Drafts.{IsDraft}
-use Rattle.mv_rules.specs.Words.{words_of}
+use Rattle.mv_scan.specs.Words.{words_of}
 use Rattle.mv_rules.specs.RulesText.{and_then, at_end, begun, line_of, lengths_stand, read_line, read_lines, read_words}
 use Rattle.mv_rules.specs.Grammar.{Sentence, if_words, sentences, lone, SpellsLeft, SpellsRight, SpellsEach}
 use Rattle.mv_rules.proofs.DraftSteps.{draft_read}

@@ -1,6 +1,5 @@
 -- Words that are no parts, lists of parts, and how many parts a line has.
 use Rattle.std.proofs.Common.{◌≡◌, ℕ, suc, ◌+◌, ◌≤◌, Bool, true, false, List, [], ◌∷◌, ◌++◌, length, refl, ap, sym, ◌∙◌, subst, arith, Some, zero-add, one-add, codes, suc-add}
-use Rattle.std.proofs.lemmas.Slice.Eq.{bytes_eq-Decides}
 use Rattle.std.specs.Prelude.{if◌then◌else◌, ◌==◌}
 use Rattle.std.specs.List.{list_any, list_all}
 use Rattle.mv_rules.specs.declared.rule.FdTerm.{FdTerm}
@@ -11,28 +10,23 @@ use Rattle.mv_rules.specs.declared.rule.Part.{Part}
 use Rattle.mv_rules.specs.declared.rule.Part.TheVariants.{Text, Sized, Named, Length}
 use Rattle.mv_rules.specs.declared.reading.Version.{Version}
 use Rattle.mv_rules.specs.declared.reading.Version.TheVariants.{First, Second}
-use Rattle.mv_rules.specs.declared.token.Token.{Token}
-use Rattle.mv_rules.specs.declared.token.Token.TheVariants.{Plain, Quoted, Glued}
-use Rattle.mv_rules.specs.declared.found.Found.TheVariants.{Is}
-use Rattle.mv_rules.specs.Found.{pair, is_other}
-use Rattle.mv_rules.specs.Forms.{decimal, is_word, is_lone_word, is_errno, errno_in, part_of, all_parts, parts_of}
-use Rattle.mv_rules.specs.Names.{is_name, part_name_passes, is_sized}
-use Rattle.mv_rules.specs.RulesText.{is_bad_text, part_count}
-use Rattle.mv_rules.specs.ItemGrammar.{Side, Left, Right, SpellsNumber, SpellsFd, SpellsTime, SpellsPart, SpellsParts, SpellsBytes, SpellsErrno, MayStand}
-use Rattle.mv_rules.proofs.GrammarFinds.{both_true, both_false, by_map, pair_is}
-use Rattle.mv_rules.proofs.GrammarTerms.{lengths_on, number_is, number_found, first_digit, below_digits, above_digits, StandsOn, part_is, part_found, part_clean, part_stands}
+use Rattle.mv_scan.specs.declared.token.Token.{Token}
+use Rattle.mv_scan.specs.declared.token.Token.TheVariants.{Plain, Quoted, Glued}
+use Rattle.mv_scan.specs.declared.found.Found.TheVariants.{Is}
+use Rattle.mv_scan.specs.Found.{pair, is_other}
+use Rattle.mv_rules.specs.Forms.{is_errno, errno_in, part_of, all_parts, parts_of}
+use Rattle.mv_scan.specs.Numbers.{decimal}
+use Rattle.mv_scan.specs.Words.{is_word, is_lone_word, is_bad_text}
+use Rattle.mv_rules.specs.Names.{part_name_passes, is_sized}
+use Rattle.mv_scan.specs.Names.{is_name}
+use Rattle.mv_rules.specs.RulesText.{part_count}
+use Rattle.mv_rules.specs.ItemGrammar.{Side, Left, Right, SpellsFd, SpellsTime, SpellsPart, SpellsParts, SpellsBytes, SpellsErrno, MayStand}
+use Rattle.mv_scan.specs.WordGrammar.{SpellsNumber}
+use Rattle.mv_scan.proofs.GrammarFinds.{both_true, both_false, by_map, pair_is}
+use Rattle.mv_rules.proofs.GrammarTerms.{lengths_on, StandsOn, part_is, part_found, part_clean, part_stands}
+use Rattle.mv_scan.proofs.NumberLaws.{number_is, number_found, first_digit, below_digits, above_digits}
 
 -- ## Words
-
-pub is_word_is : (word : List ℕ) (token : Token) → is_word word token ≡ true → token ≡ Plain word
-is_word_is word (Plain bytes) h = ap (λ (k : List ℕ). Plain k) ((bytes_eq-Decides bytes word).0 h)
-is_word_is word (Quoted text) h = cc
-is_word_is word Glued h = cc
-
-pub lone_is : (word : List ℕ) (tokens : List Token) → is_lone_word word tokens ≡ true → tokens ≡ Plain word ∷ []
-lone_is word [] h = cc
-lone_is word (token ∷ []) h = ap (λ (t : Token). t ∷ []) (is_word_is word token h)
-lone_is word (token ∷ other ∷ tokens) h = cc
 
 -- neither a part nor an arrow nor the word `errno`
 pub record IsNeutral (lengths : Bool) (token : Token) : Type 0 where

@@ -1,11 +1,7 @@
-pub mod Texts
-pub mod WordSteps
-pub mod Decimals
 pub mod PartSteps
 pub mod ErrnoCounts
 pub mod DraftSteps
 pub mod LineSteps
-pub mod GrammarFinds
 pub mod GrammarTerms
 pub mod GrammarWords
 pub mod GrammarItems
@@ -17,6 +13,3 @@ pub mod GrammarText
 pub mod GrammarReads
 pub mod GrammarLaws
 pub mod GuardLaws
-pub mod WordGiven
-pub mod WordFound
-pub mod WordLaws

@@ -2,8 +2,8 @@
 use Rattle.std.specs.Prelude.{◌≡◌, true, ◌≤◌, [], length}
 use Rattle.mv_rules.specs.declared.rule.Pattern.{Pattern}
 use Rattle.mv_rules.specs.declared.rule.Rule.{Rule}
-use Rattle.mv_rules.specs.declared.found.Found.{Found}
-use Rattle.mv_rules.specs.declared.found.Found.TheVariants.{Other, OutOfRange, Is}
+use Rattle.mv_scan.specs.declared.found.Found.{Found}
+use Rattle.mv_scan.specs.declared.found.Found.TheVariants.{Other, OutOfRange, Is}
 use Rattle.mv_rules.specs.declared.line.Line.{Line}
 use Rattle.mv_rules.specs.declared.line.Line.TheVariants as lines
 use Rattle.mv_rules.specs.declared.reading.Phase.{Phase}

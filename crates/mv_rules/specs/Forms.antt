@@ -13,37 +13,15 @@ use Rattle.mv_rules.specs.declared.rule.Pattern.TheVariants as patterns
 use Rattle.mv_rules.specs.declared.rule.Comparison.{Comparison}
 use Rattle.mv_rules.specs.declared.rule.Comparison.TheVariants.{Equal, Less, Greater}
 use Rattle.mv_rules.specs.declared.rule.Guard.{Guard}
-use Rattle.mv_rules.specs.declared.token.Token.{Token}
-use Rattle.mv_rules.specs.declared.token.Token.TheVariants.{Plain, Quoted, Glued}
+use Rattle.mv_scan.specs.declared.token.Token.{Token}
+use Rattle.mv_scan.specs.declared.token.Token.TheVariants.{Plain, Quoted, Glued}
 use Rattle.mv_rules.specs.declared.verb.Verb.{Verb}
 use Rattle.mv_rules.specs.declared.verb.Verb.TheVariants as verbs
-use Rattle.mv_rules.specs.declared.found.Found.{Found}
-use Rattle.mv_rules.specs.declared.found.Found.TheVariants.{Other, OutOfRange, Is}
-use Rattle.mv_rules.specs.Found.{found_map, pair, only_if}
-
--- ## Numbers, in decimal digits
-
-abbrev pub is_digit : ℕ → Bool
-is_digit b = nat_le 48 b && nat_le b 57
-
-abbrev pub decimal_from : ℕ → List ℕ → ℕ
-decimal_from n [] = n
-decimal_from n (b ∷ digits) = decimal_from (10 * n + (b - 48)) digits
-
--- what the digits stand for, however many they are
-abbrev pub decimal : List ℕ → Option ℕ
-decimal [] = None
-decimal (b ∷ digits) = if list_all is_digit (b ∷ digits) then Some (decimal_from 0 (b ∷ digits)) else None
-
-abbrev pub in_range : ℕ → ℕ → Option ℕ → Found ℕ
-in_range low high None = Other
-in_range low high (Some n) = if nat_le low n && nat_le n high then Is n else OutOfRange
-
--- a number from low to high
-abbrev pub number_of : ℕ → ℕ → Token → Found ℕ
-number_of low high (Plain word) = in_range low high (decimal word)
-number_of low high (Quoted text) = Other
-number_of low high Glued = Other
+use Rattle.mv_scan.specs.declared.found.Found.{Found}
+use Rattle.mv_scan.specs.declared.found.Found.TheVariants.{Other, OutOfRange, Is}
+use Rattle.mv_scan.specs.Numbers.{decimal, in_range, number_of}
+use Rattle.mv_scan.specs.Words.{is_word, is_lone_word}
+use Rattle.mv_scan.specs.Found.{found_map, pair, only_if}
 
 -- ## Terms
 
@@ -102,16 +80,6 @@ parts_of lengths [] = Other
 parts_of lengths (token ∷ tokens) = all_parts lengths (token ∷ tokens)
 
 -- ## Items
-
-abbrev pub is_word : List ℕ → Token → Bool
-is_word word (Plain bytes) = bytes_eq bytes word
-is_word word (Quoted text) = false
-is_word word Glued = false
-
-abbrev pub is_lone_word : List ℕ → List Token → Bool
-is_lone_word word [] = false
-is_lone_word word (token ∷ []) = is_word word token
-is_lone_word word (token ∷ other ∷ tokens) = false
 
 -- `errno N`
 abbrev pub is_errno : List Token → Bool

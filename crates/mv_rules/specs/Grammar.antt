@@ -8,11 +8,11 @@ use Rattle.mv_rules.specs.declared.rule.Guard.{Guard}
 use Rattle.mv_rules.specs.declared.rule.Rule.{Rule}
 use Rattle.mv_rules.specs.declared.reading.Version.{Version}
 use Rattle.mv_rules.specs.declared.reading.Version.TheVariants.{First, Second}
-use Rattle.mv_rules.specs.declared.token.Token.{Token}
-use Rattle.mv_rules.specs.declared.token.Token.TheVariants.{Plain}
-use Rattle.mv_rules.specs.Words.{words_of}
+use Rattle.mv_scan.specs.declared.token.Token.{Token}
+use Rattle.mv_scan.specs.declared.token.Token.TheVariants.{Plain}
+use Rattle.mv_scan.specs.Words.{words_of}
 use Rattle.mv_rules.specs.Names.{parts_in, has_again, is_all_bound, bytes_are_bound}
-use Rattle.mv_rules.specs.RulesText.{lines_of}
+use Rattle.mv_scan.specs.Lines.{lines_of}
 use Rattle.mv_rules.specs.ItemGrammar.{Left, Right, SpellsItem, SpellsGuard}
 
 -- ## Lines that count

@@ -14,10 +14,12 @@ use Rattle.mv_rules.specs.declared.rule.Comparison.TheVariants.{Equal, Less, Gre
 use Rattle.mv_rules.specs.declared.rule.Guard.{Guard}
 use Rattle.mv_rules.specs.declared.reading.Version.{Version}
 use Rattle.mv_rules.specs.declared.reading.Version.TheVariants.{Second}
-use Rattle.mv_rules.specs.declared.token.Token.{Token}
-use Rattle.mv_rules.specs.declared.token.Token.TheVariants.{Plain, Quoted}
-use Rattle.mv_rules.specs.Forms.{decimal}
-use Rattle.mv_rules.specs.Names.{is_name, rest_is_last}
+use Rattle.mv_scan.specs.declared.token.Token.{Token}
+use Rattle.mv_scan.specs.declared.token.Token.TheVariants.{Plain, Quoted}
+use Rattle.mv_scan.specs.Numbers.{decimal}
+use Rattle.mv_scan.specs.WordGrammar.{SpellsNumber, SpellsName}
+use Rattle.mv_rules.specs.Names.{rest_is_last}
+use Rattle.mv_scan.specs.Names.{is_name}
 
 -- where an item stands: on the left of a rule, or on the right in a text of this version
 pub data Side : Type 0 where
@@ -28,19 +30,6 @@ pub data Side : Type 0 where
 
 abbrev pub arrow : Token
 arrow = Plain (codes "->")
-
--- a number from low to high, in decimal digits
-pub record SpellsNumber (low high n : ℕ) (token : Token) : Type 0 where
-  pub digits : List ℕ
-  pub written : token ≡ Plain digits
-  pub value : decimal digits ≡ Some n
-  pub from : low ≤ n
-  pub to : n ≤ high
-
--- a name behind its sign
-pub record SpellsName (sign : ℕ) (name : List ℕ) (token : Token) : Type 0 where
-  pub written : token ≡ Plain (sign ∷ name)
-  pub good : is_name name ≡ true
 
 -- F: a number, or `$name`
 abbrev pub SpellsFd : FdTerm → Token → Type 0

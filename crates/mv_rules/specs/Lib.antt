@@ -1,11 +1,7 @@
 pub mod Shape
-pub mod Words
-pub mod Found
-pub mod Ranges
 pub mod Forms
 pub mod Names
 pub mod RulesText
 pub mod Drafts
 pub mod ItemGrammar
-pub mod WordGrammar
 pub mod Grammar

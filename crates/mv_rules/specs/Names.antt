@@ -10,7 +10,7 @@ use Rattle.mv_rules.specs.declared.rule.Part.{Part}
 use Rattle.mv_rules.specs.declared.rule.Part.TheVariants.{Text, Sized, Named, Length}
 use Rattle.mv_rules.specs.declared.rule.Pattern.{Pattern}
 use Rattle.mv_rules.specs.declared.rule.Pattern.TheVariants.{Read, ReadErrno, Write, WriteErrno, Accept, AcceptErrno, Close, CloseErrno, Shutdown, ShutdownErrno, Yield, Clock, Random}
-use Rattle.mv_rules.specs.Forms.{is_digit}
+use Rattle.mv_scan.specs.Names.{is_name}
 
 -- ## What stands in an item
 
@@ -70,17 +70,6 @@ names_pass fd time byte pattern =
     && (time_name_passes time (time_in pattern) && list_all (part_name_passes byte) (parts_in pattern)))
 
 -- ## Well formed
-
-abbrev pub is_lower : ℕ → Bool
-is_lower b = nat_le 97 b && nat_le b 122
-
-abbrev pub is_name_byte : ℕ → Bool
-is_name_byte b = is_lower b || (is_digit b || (b == 95))
-
--- a lower-case letter and up to 15 of lower-case letters, digits and `_`
-abbrev pub is_name : List ℕ → Bool
-is_name [] = false
-is_name (b ∷ bytes) = is_lower b && (nat_le (length bytes) 15 && list_all is_name_byte bytes)
 
 abbrev pub has_good_names : Pattern → Bool
 has_good_names = names_pass is_name is_name is_name

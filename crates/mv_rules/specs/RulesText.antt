@@ -9,8 +9,8 @@ use Rattle.mv_rules.specs.declared.rule.Rule.{Rule}
 use Rattle.mv_rules.specs.declared.fault.RuleFault.{RuleFault}
 use Rattle.mv_rules.specs.declared.fault.RuleKind.{RuleKind}
 use Rattle.mv_rules.specs.declared.fault.RuleKind.TheVariants as kinds
-use Rattle.mv_rules.specs.declared.found.Found.{Found}
-use Rattle.mv_rules.specs.declared.found.Found.TheVariants.{Is}
+use Rattle.mv_scan.specs.declared.found.Found.{Found}
+use Rattle.mv_scan.specs.declared.found.Found.TheVariants.{Is}
 use Rattle.mv_rules.specs.declared.line.Line.{Line}
 use Rattle.mv_rules.specs.declared.line.Line.TheVariants as lines
 use Rattle.mv_rules.specs.declared.reading.Version.{Version}
@@ -18,29 +18,15 @@ use Rattle.mv_rules.specs.declared.reading.Version.TheVariants.{First, Second}
 use Rattle.mv_rules.specs.declared.reading.Phase.{Phase}
 use Rattle.mv_rules.specs.declared.reading.Phase.TheVariants.{Outside, InLeft, InRight}
 use Rattle.mv_rules.specs.declared.reading.Reading.{Reading}
-use Rattle.mv_rules.specs.declared.token.Token.{Token}
-use Rattle.mv_rules.specs.declared.token.Token.TheVariants.{Plain, Quoted, Glued}
+use Rattle.mv_scan.specs.declared.token.Token.{Token}
+use Rattle.mv_scan.specs.declared.token.Token.TheVariants.{Plain, Quoted, Glued}
 use Rattle.mv_rules.specs.declared.verb.Verb.{Verb}
-use Rattle.mv_rules.specs.Words.{words_of}
-use Rattle.mv_rules.specs.Found.{holds, is_other, is_out_of_range}
+use Rattle.mv_scan.specs.Lines.{lines_of}
+use Rattle.mv_scan.specs.Words.{words_of, is_bad_text}
+use Rattle.mv_scan.specs.Found.{holds, is_other, is_out_of_range}
 use Rattle.mv_rules.specs.Forms.{verb_of, item_of, guard_of, part_of}
-use Rattle.mv_rules.specs.Names.{is_name, has_good_names, rest_is_last, is_sized, parts_in, has_again, is_all_bound, bytes_are_bound}
-
--- ## Lines
-
--- each line ends with a line feed; the last may lack it
-abbrev pub onto_line : ℕ → List (List ℕ) → List (List ℕ)
-onto_line b [] = (b ∷ []) ∷ []
-onto_line b (line ∷ lines) = (b ∷ line) ∷ lines
-
-abbrev pub lines_of : List ℕ → List (List ℕ)
-lines_of [] = []
-lines_of (b ∷ bytes) = if b == 10 then [] ∷ lines_of bytes else onto_line b (lines_of bytes)
-
--- how many bytes stand before the first line feed
-abbrev pub line_len : List ℕ → ℕ
-line_len [] = 0
-line_len (b ∷ bytes) = if b == 10 then 0 else suc (line_len bytes)
+use Rattle.mv_rules.specs.Names.{has_good_names, rest_is_last, is_sized, parts_in, has_again, is_all_bound, bytes_are_bound}
+use Rattle.mv_scan.specs.Names.{is_name}
 
 -- ## What a line is, by its first word
 
@@ -127,11 +113,6 @@ abbrev pub is_unfit : Line → Bool
 is_unfit (lines.Item found) = is_out_of_range found
 is_unfit (lines.When found) = is_out_of_range found
 is_unfit line = false
-
--- a text that doesn't end or has another byte or escape
-abbrev pub is_bad_text : Token → Bool
-is_bad_text (Quoted None) = true
-is_bad_text token = false
 
 -- a name of another form; on the left a rest that isn't last; on the right a part with a length
 abbrev pub is_misnamed_item : Phase → Pattern → Bool

@@ -1,20 +1,19 @@
 //! The table of faults: what a line has, in the order of the table.
 ghost use Rattle.std.specs.Prelude.{◌≡◌, ◌+◌, ◌≤◌, length, not};
 ghost use Rattle.std.specs.List.{list_any};
-ghost use Rattle.mv_rules.specs.Found.{is_other};
+ghost use Rattle.mv_scan.specs.Found.{is_other};
 ghost use Rattle.mv_rules.specs.Forms.{part_of};
-ghost use Rattle.mv_rules.specs.RulesText.{faults_on, first_fault, is_bad_guard, is_bad_guard_in, is_bad_text, is_empty_left, is_excess, is_formless, is_full, is_left, is_misnamed, is_misnamed_item, is_misplaced, is_twice, is_twice_in, is_unbound, is_unbound_in, is_unfit, part_count};
+ghost use Rattle.mv_rules.specs.RulesText.{faults_on, first_fault, is_bad_guard, is_bad_guard_in, is_empty_left, is_excess, is_formless, is_full, is_left, is_misnamed, is_misnamed_item, is_misplaced, is_twice, is_twice_in, is_unbound, is_unbound_in, is_unfit, part_count};
+ghost use Rattle.mv_scan.specs.Words.{is_bad_text};
 
 use crate::fault::RuleKind;
-use crate::found::Found;
 use crate::line::Line;
 use crate::names::{
-    bytes_are_bound, has_again, has_good_names, has_sized, is_all_bound, is_name, parts_in,
-    rest_is_last,
+    bytes_are_bound, has_again, has_good_names, has_sized, is_all_bound, parts_in, rest_is_last,
 };
 use crate::reading::{Phase, Reading};
 use crate::rule::{Guard, Pattern};
-use crate::token::Token;
+use mv_scan::{Found, Token, has_bad_text, is_name};
 
 /// An item outside a rule, or `rule`, `to` or `end` out of place.
 fn is_misplaced(phase: &Phase, line: &Line) -> bool
@@ -127,18 +126,6 @@ fn is_unfit(line: &Line) -> bool
         Line::When(Found::OutOfRange) => true,
         _ => false,
     }
-}
-
-/// A text that doesn't end or has another byte or escape.
-fn has_bad_text(tokens: &[Token]) -> bool
-    ensures { result ≡ list_any is_bad_text tokens.now }
-{
-    for token in tokens {
-        if let Token::Quoted(None) = token {
-            return true;
-        }
-    }
-    false
 }
 
 fn is_misnamed_item(phase: &Phase, pattern: &Pattern) -> bool

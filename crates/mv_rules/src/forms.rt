@@ -1,37 +1,16 @@
 //! The forms of items and guards.
 ghost use Rattle.std.specs.Prelude.{◌≡◌, ◌<◌, codes, IfOk, IfSome, length};
 ghost use Rattle.std.specs.List.{position};
-ghost use Rattle.mv_rules.specs.Forms.{accept_form, clock_form, close_form, comparison_of, errno_in, form_of, guard_of, is_errno, is_lone_word, is_word, item_at, item_of, number_of, random_form, read_form, shutdown_form, verb_of, write_form, yield_form};
+ghost use Rattle.mv_rules.specs.Forms.{accept_form, clock_form, close_form, comparison_of, errno_in, form_of, guard_of, is_errno, item_at, item_of, random_form, read_form, shutdown_form, verb_of, write_form, yield_form};
+ghost use Rattle.mv_scan.specs.Words.{is_lone_word, is_word};
+ghost use Rattle.mv_scan.specs.Numbers.{number_of};
 
-use crate::found::{Found, both};
-use crate::number::{number_word, short_word};
 use crate::rule::{Comparison, Guard, Pattern};
 use crate::terms::{read_byte_name, read_fd, read_lone_fd, read_lone_time, read_parts};
-use crate::token::Token;
 use crate::verb::Verb;
 use mv_calls::OutOfMemory;
+use mv_scan::{Found, Token, both, is_lone_word, is_word, number_word, short_word};
 use std::alloc::Global;
-
-/// Whether the word is this one.
-pub fn is_word(word: &[u8], token: &Token) -> bool
-    ensures { result ≡ is_word word.now token.now }
-{
-    match token {
-        Token::Plain(bytes) => bytes.slice() == word,
-        Token::Quoted(_) => false,
-        Token::Glued => false,
-    }
-}
-
-/// Whether this word stands alone.
-fn is_lone_word(word: &[u8], tokens: &[Token]) -> bool
-    ensures { result ≡ is_lone_word word.now tokens.now }
-{
-    match tokens {
-        [token] => is_word(word, token),
-        _ => false,
-    }
-}
 
 /// Whether the outcome begins with `errno`.
 fn is_errno(tokens: &[Token]) -> bool

@@ -3,12 +3,11 @@ ghost use Rattle.std.specs.Prelude.{◌≡◌, IfOk};
 ghost use Rattle.mv_rules.specs.RulesText.{guard_line, has_words, item_line, lengths_stand, line_of, line_under};
 
 use crate::forms::{read_guard, read_item, verb_of};
-use crate::found::Found;
 use crate::reading::{Phase, Version};
 use crate::rule::{Guard, Pattern};
-use crate::token::Token;
 use crate::verb::Verb;
 use mv_calls::OutOfMemory;
+use mv_scan::{Found, Token};
 use std::alloc::Global;
 
 /// A line, by its first word. The `bool` says whether other words follow `rule`, `to` or `end`.

@@ -2,9 +2,11 @@
 ghost use Rattle.std.specs.Prelude.{◌≡◌, []};
 ghost use Rattle.std.specs.List.{list_all, list_any};
 ghost use Rattle.std.specs.Option.{option_map};
-ghost use Rattle.mv_rules.specs.Names.{binds_bytes, binds_fd, binds_time, bytes_are_bound, fd_in, fd_is_bound, fd_name_passes, has_again, has_good_names, is_all_bound, is_fd_name, is_name, is_name_byte, is_new, is_part_name, is_sized, is_time_name, made_in, part_name_passes, parts_in, rest_is_last, time_in, time_is_bound, time_name_passes};
+ghost use Rattle.mv_rules.specs.Names.{binds_bytes, binds_fd, binds_time, bytes_are_bound, fd_in, fd_is_bound, fd_name_passes, has_again, has_good_names, is_all_bound, is_fd_name, is_new, is_part_name, is_sized, is_time_name, made_in, part_name_passes, parts_in, rest_is_last, time_in, time_is_bound, time_name_passes};
+ghost use Rattle.mv_scan.specs.Names.{is_name, is_name_byte};
 
 use crate::rule::{FdTerm, Part, Pattern, TimeTerm};
+use mv_scan::is_name;
 
 /// The descriptor that the call names.
 fn fd_in(pattern: &Pattern) -> Option<&FdTerm>
@@ -56,35 +58,6 @@ pub fn parts_in(pattern: &Pattern) -> &[Part]
         Pattern::WriteErrno { bytes, .. } => bytes.slice(),
         Pattern::Random { bytes } => bytes.slice(),
         _ => &[],
-    }
-}
-
-fn is_name_byte(byte: u8) -> bool
-    ensures { result ≡ is_name_byte byte }
-{
-    byte.is_ascii_lowercase() || byte.is_ascii_digit() || byte == b'_'
-}
-
-fn are_name_bytes(bytes: &[u8]) -> bool
-    ensures { result ≡ list_all is_name_byte bytes.now }
-{
-    for byte in bytes {
-        if !is_name_byte(*byte) {
-            return false;
-        }
-    }
-    true
-}
-
-/// Whether this is a lower-case letter and up to 15 of lower-case letters, digits and `_`.
-pub fn is_name(name: &[u8]) -> bool
-    ensures { result ≡ is_name name.now }
-{
-    match name {
-        [first, rest @ ..] => {
-            first.is_ascii_lowercase() && rest.len() <= 15 && are_name_bytes(rest)
-        }
-        [] => false,
     }
 }
 

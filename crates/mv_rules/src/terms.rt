@@ -3,12 +3,10 @@ ghost use Rattle.std.specs.Prelude.{◌≡◌, ◌==◌, ◌<◌, IfOk, IfSome, 
 ghost use Rattle.std.specs.List.{position};
 ghost use Rattle.mv_rules.specs.Forms.{all_parts, byte_name_of, fd_of, lone_fd, lone_time, named_at, part_of, parts_of, time_of};
 
-use crate::found::Found;
 use crate::lists::Parts;
-use crate::number::read_number;
 use crate::rule::{FdTerm, Part, TimeTerm};
-use crate::token::Token;
 use mv_calls::{Bytes, OutOfMemory};
+use mv_scan::{Found, Token, read_number};
 use std::alloc::Global;
 
 /// A descriptor, or a name that stands for one.

@@ -1,5 +1,5 @@
 //! The rules text: line by line, to the rules or the first fault.
-ghost use Rattle.std.specs.Prelude.{◌≡◌, ◌∷◌, ◌++◌, ◌<◌, ◌≤◌, [], Err, IfErr, IfOk, List, Ok, drop, length, true};
+ghost use Rattle.std.specs.Prelude.{◌≡◌, ◌∷◌, ◌++◌, ◌≤◌, [], Err, IfErr, IfOk, List, Ok, length, true};
 ghost use Rattle.std.specs.List.{list_all};
 ghost use Rattle.mv_calls.specs.Or.{IfFault, IsFault};
 ghost use Rattle.mv_rules.specs.declared.rule.Rule.{Rule};
@@ -7,54 +7,21 @@ ghost use Rattle.mv_rules.specs.Grammar.{IsFirstFaultyLine, Spells, has_bound_gu
 ghost use Rattle.mv_calls.specs.declared.fault.Or.TheVariants.{Fault};
 ghost use Rattle.mv_rules.specs.Shape.{IsShaped};
 ghost use Rattle.mv_rules.specs.Drafts.{IsDraft};
-ghost use Rattle.mv_rules.specs.RulesText.{after_line, at_end, begun, ended, line_len, lines_of, read_line, read_lines, rules_in, turned, unless, unread, version_of, with_guard, with_item};
+ghost use Rattle.mv_rules.specs.RulesText.{after_line, at_end, begun, ended, read_line, read_lines, rules_in, turned, unless, unread, version_of, with_guard, with_item};
+ghost use Rattle.mv_scan.specs.Lines.{line_len, lines_of};
 
 use crate::fault::{RuleFault, RuleKind};
 use crate::faults::fault_on;
-use crate::found::Found;
 use crate::line::{Line, lengths_stand, read_line_of};
 use crate::lists::{Guards, Patterns, Rules};
 use crate::reading::{Phase, Reading, Version};
 use crate::rule::{Guard, Pattern, Rule};
-use crate::words::split_line;
 use mv_calls::{Or, OutOfMemory};
+use mv_scan::{Found, first_line, split_line};
 use std::alloc::Global;
 
 /// The largest rules file, in bytes.
 const LARGEST: usize = 65_536;
-
-/// How many bytes stand before the first line feed.
-fn count_to_feed(bytes: &[u8]) -> usize
-    ensures count { result ≡ line_len bytes.now }
-    ensures within { result ≤ length bytes.now }
-{
-    for (index, byte) in bytes.iter().enumerate() {
-        if *byte == b'\n' {
-            return index;
-        }
-    }
-    bytes.len()
-}
-
-/// The bytes behind the first.
-fn behind_first(bytes: &[u8]) -> &[u8]
-    ensures { result.now ≡ drop 1 bytes.now }
-{
-    match bytes {
-        [_, after @ ..] => after,
-        [] => bytes,
-    }
-}
-
-/// The first line, and the bytes of the lines behind it.
-fn first_line(bytes: &[u8]) -> (&[u8], &[u8])
-    requires { 0 < length bytes.now }
-    ensures lines { lines_of bytes.now ≡ result.0.now ∷ lines_of result.1.now }
-    ensures shorter { length result.1.now < length bytes.now }
-{
-    let (line, behind) = bytes.split_at(count_to_feed(bytes));
-    (line, behind_first(behind))
-}
 
 fn with_pattern(items: Patterns, pattern: Pattern) -> Result<Patterns, OutOfMemory>
     ensures { IfOk result (λ all. all ≡ items ++ pattern ∷ []) }

@@ -1,6 +1,7 @@
 use Rattle.std.proofs.Common.{◌≡◌, ◌+◌, ◌≤◌, length}
 use Rattle.mv_rules.specs.Drafts.{IsDraft}
-use Rattle.mv_rules.specs.RulesText.{lines_of, read_lines, unread}
+use Rattle.mv_rules.specs.RulesText.{read_lines, unread}
+use Rattle.mv_scan.specs.Lines.{lines_of}
 use Rattle.mv_rules.proofs.text.read_lines.Given as goal
 
 -- what is read of the lines that are left is what is read of all

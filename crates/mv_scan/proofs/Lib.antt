@@ -1,0 +1,10 @@
+pub mod LineLaws
+pub mod Texts
+pub mod WordSteps
+pub mod Decimals
+pub mod GrammarFinds
+pub mod NumberLaws
+pub mod TokenLaws
+pub mod WordGiven
+pub mod WordFound
+pub mod WordLaws
