@@ -23,6 +23,7 @@ use Rattle.mv_rules.specs.RulesText.{part_count}
 use Rattle.mv_rules.specs.ItemGrammar.{Side, Left, Right, SpellsFd, SpellsTime, SpellsPart, SpellsParts, SpellsBytes, SpellsErrno, MayStand}
 use Rattle.mv_scan.specs.WordGrammar.{SpellsNumber}
 use Rattle.mv_scan.proofs.GrammarFinds.{both_true, both_false, by_map, pair_is}
+use Rattle.mv_scan.proofs.TokenLaws.{is_word_is}
 use Rattle.mv_rules.proofs.GrammarTerms.{lengths_on, StandsOn, part_is, part_found, part_clean, part_stands}
 use Rattle.mv_scan.proofs.NumberLaws.{number_is, number_found, first_digit, below_digits, above_digits}
 

@@ -18,6 +18,10 @@ pub both_false : (b c : Bool) → (b || c) ≡ false → (b ≡ false) × (c ≡
 both_false true c h = cc
 both_false false c h = (refl, h)
 
+pub by_test : {A : Type 0} (P : A → Type 0) (b : Bool) (x y : A) → (b ≡ true → P x) → (b ≡ false → P y) → P (if b then x else y)
+by_test P true x y h k = h refl
+by_test P false x y h k = k refl
+
 pub by_if : {A : Type 0} (b : Bool) (x y : Found A) (p : A) (P : Type 0)
     → (b ≡ true → x ≡ Is p → P) → (b ≡ false → y ≡ Is p → P) → (if b then x else y) ≡ Is p → P
 by_if true x y p P h k is = h refl is

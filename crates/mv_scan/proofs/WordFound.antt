@@ -1,5 +1,5 @@
 -- The words that are found spell the line.
-use Rattle.std.proofs.Common.{◌≡◌, inl, inr, ℕ, zero, suc, ◌+◌, ◌≤◌, ◌&&◌, ◌||◌, ◌==◌, Bool, true, false, List, [], ◌∷◌, ◌++◌, length, take, drop, refl, ap, sym, ◌∙◌, subst, arith, append_assoc, append-nil, length-append, Option, Some, None, leb-true, eqb-true}
+use Rattle.std.proofs.Common.{◌≡◌, inl, inr, ℕ, zero, suc, ◌+◌, ◌*◌, ◌≤◌, ◌&&◌, ◌||◌, ◌==◌, Bool, true, false, List, [], ◌∷◌, ◌++◌, length, take, drop, refl, ap, sym, ◌∙◌, subst, arith, append_assoc, append-nil, length-append, Option, Some, None, leb-true, eqb-true}
 use Rattle.std.proofs.lemmas.Bool.{eqb-false}
 use Rattle.std.proofs.lemmas.List.{take-append-drop}
 use Rattle.std.specs.Option.{option_map}
@@ -10,14 +10,10 @@ use Rattle.mv_scan.specs.declared.token.Token.TheVariants.{Plain, Quoted, Glued}
 use Rattle.mv_scan.specs.declared.scan.Place.{Place}
 use Rattle.mv_scan.specs.declared.scan.Place.TheVariants.{Among, Backslash, High, Low}
 use Rattle.mv_scan.specs.declared.scan.Effect.{Effect}
-use Rattle.mv_scan.specs.Words.{hex_value, escaped, byte_of_hex, Scanned, with_byte, scan_on, scan, drop_spaces, word_len, quoted, word_at, first_word, words_then, words_within, is_comment, words_of}
-use Rattle.mv_scan.specs.WordGrammar.{IsItself, IsHexadecimal, SpellsText, IsPlainWord, SpellsToken, is_good, AreGood, AreSpaces, EndsWord, SpellsWords, IsComment, SpellsLine}
-use Rattle.mv_scan.proofs.GrammarFinds.{both_true}
+use Rattle.mv_scan.specs.Words.{hex_value, escaped, given_by, no_digit, high_digit, low_digit, Scanned, with_byte, scan_on, scan, drop_spaces, word_len, quoted, word_at, first_word, words_then, words_within, is_comment, words_of}
+use Rattle.mv_scan.specs.WordGrammar.{IsItself, SpellsText, IsPlainWord, SpellsToken, is_good, AreGood, AreSpaces, EndsWord, SpellsWords, IsComment, SpellsLine}
+use Rattle.mv_scan.proofs.GrammarFinds.{both_true, by_test}
 use Rattle.mv_scan.proofs.WordGiven.{starts, is_comment_line}
-
-by_test : {A : Type 0} (P : A → Type 0) (b : Bool) (x y : A) → (b ≡ true → P x) → (b ≡ false → P y) → P (if b then x else y)
-by_test P true x y h k = h refl
-by_test P false x y h k = k refl
 
 -- ## Texts
 
@@ -26,49 +22,36 @@ abbrev SpellsFrom : Place → List ℕ → List ℕ → Type 0
 SpellsFrom Among text bytes = SpellsText text bytes
 SpellsFrom Backslash text bytes = SpellsText text (92 ∷ bytes)
 SpellsFrom High text bytes = SpellsText text (92 ∷ 120 ∷ bytes)
-SpellsFrom (Low high) text bytes = (first : ℕ) → hex_value first ≡ high → SpellsText text (92 ∷ 120 ∷ first ∷ bytes)
+SpellsFrom (Low high) text bytes = (first : ℕ) → hex_value first ≡ Some high → SpellsText text (92 ∷ 120 ∷ first ∷ bytes)
 
 abbrev ScanIs : Place → List ℕ → Scanned → Type 0
 ScanIs place bytes s = (text : List ℕ) → s.0 ≡ Some text → (inner : List ℕ) × (bytes ≡ inner ++ (34 ∷ s.1)) × SpellsFrom place text inner
 
--- a text that begins with a byte
-record Begins (o : Option ℕ) (more : Option (List ℕ)) (text : List ℕ) : Type 0 where
-  pub byte : ℕ
+-- a text that begins with the byte
+record Begins (byte : ℕ) (more : Option (List ℕ)) (text : List ℕ) : Type 0 where
   pub others : List ℕ
-  pub given : o ≡ Some byte
   pub rest : more ≡ Some others
   pub is : text ≡ byte ∷ others
 
-begins_some : (b : ℕ) (more : Option (List ℕ)) (text : List ℕ) → option_map (λ k. b ∷ k) more ≡ Some text → Begins (Some b) more text
-begins_some b None text h = cc
-begins_some b (Some others) text h = record { byte = b; others = others; given = refl; rest = refl; is = let e : b ∷ others ≡ text = cc in sym e }
-
-begins : (o : Option ℕ) (s : Scanned) (text : List ℕ) → (with_byte o s).0 ≡ Some text → Begins o s.0 text
-begins None s text h = cc
-begins (Some b) s text h = begins_some b s.0 text h
-
-same_rest : (o : Option ℕ) (s : Scanned) → (with_byte o s).1 ≡ s.1
-same_rest None s = refl
-same_rest (Some b) s = refl
+begins : (byte : ℕ) (more : Option (List ℕ)) (text : List ℕ) → option_map (λ k. byte ∷ k) more ≡ Some text → Begins byte more text
+begins byte None text h = cc
+begins byte (Some others) text h = record { others = others; rest = refl; is = let e : byte ∷ others ≡ text = cc in sym e }
 
 -- one byte more in front
 longer : (b : ℕ) (bytes inner end : List ℕ) → bytes ≡ inner ++ end → b ∷ bytes ≡ (b ∷ inner) ++ end
 longer b bytes inner end h = ap (λ (k : List ℕ). b ∷ k) h
 
 -- a byte is given, and the rest is scanned among its bytes
-given_is : (place : Place) (b : ℕ) (bytes : List ℕ) (o : Option ℕ) → ScanIs Among bytes (scan Among bytes)
-    → ((byte : ℕ) (others inner : List ℕ) → o ≡ Some byte → SpellsText others inner → SpellsFrom place (byte ∷ others) (b ∷ inner))
-    → ScanIs place (b ∷ bytes) (with_byte o (scan Among bytes))
-given_is place b bytes o ih spell text h =
-    let t = begins o (scan Among bytes) text h in
+given_is : (place : Place) (b : ℕ) (bytes : List ℕ) (byte : ℕ) → ScanIs Among bytes (scan Among bytes)
+    → ((others inner : List ℕ) → SpellsText others inner → SpellsFrom place (byte ∷ others) (b ∷ inner))
+    → ScanIs place (b ∷ bytes) (with_byte byte (scan Among bytes))
+given_is place b bytes byte ih spell text h =
+    let t = begins byte (scan Among bytes).0 text h in
     let s = ih t.others t.rest in (
       b ∷ s.0,
-      longer b bytes s.0 _ (s.1 ∙ ap (λ (k : List ℕ). s.0 ++ (34 ∷ k)) (sym (same_rest o (scan Among bytes)))),
-      subst (λ (k : List ℕ). SpellsFrom place k (b ∷ s.0)) (sym t.is) (spell t.byte t.others s.0 t.given s.2),
+      longer b bytes s.0 _ s.1,
+      subst (λ (k : List ℕ). SpellsFrom place k (b ∷ s.0)) (sym t.is) (spell t.others s.0 s.2),
     )
-
-some_is : (b byte : ℕ) → ◌≡◌ {A = Option ℕ} (Some b) (Some byte) → b ≡ byte
-some_is b byte h = cc
 
 itself : (b : ℕ) → (b ≡ 34 → ⊥) → (b ≡ 92 → ⊥) → (nat_le 32 b && nat_le b 126) ≡ true → IsItself b (b ∷ [])
 itself b q s h =
@@ -84,11 +67,16 @@ on_among b bytes ih =
     (λ s text h. let t = ih Backslash text h in
     (b ∷ t.0, longer b bytes t.0 _ t.1, subst (λ (k : ℕ). SpellsText text (k ∷ t.0)) (sym (eqb-true b 92 s)) t.2))
     (λ s. by_test P (nat_le 32 b && nat_le b 126) _ _
-    (λ r. given_is Among b bytes (Some b) (ih Among)
-    (λ byte others inner e more.
-    subst (λ (k : ℕ). SpellsText (k ∷ others) (b ∷ inner)) (some_is b byte e)
-    (b ∷ [], inner, refl, inl (itself b (eqb-false b 34 q) (eqb-false b 92 s) r), more)))
+    (λ r. given_is Among b bytes b (ih Among)
+    (λ others inner more. (b ∷ [], inner, refl, inl (itself b (eqb-false b 34 q) (eqb-false b 92 s) r), more)))
     (λ r text h. cc)))
+
+-- what the byte of an escape gives
+on_given : (b : ℕ) (bytes : List ℕ) (ih : (place : Place) → ScanIs place bytes (scan place bytes)) (o : Option ℕ) → escaped b ≡ o
+    → ScanIs Backslash (b ∷ bytes) (scan_on (given_by o) bytes (λ next. scan next bytes))
+on_given b bytes ih None e = λ text h. cc
+on_given b bytes ih (Some byte) e =
+    given_is Backslash b bytes byte (ih Among) (λ others inner more. (92 ∷ b ∷ [], inner, refl, inr (inl (record { letter = b; written = refl; value = e })), more))
 
 on_backslash : (b : ℕ) (bytes : List ℕ) (ih : (place : Place) → ScanIs place bytes (scan place bytes)) → ScanIs Backslash (b ∷ bytes) (scan Backslash (b ∷ bytes))
 on_backslash b bytes ih =
@@ -96,30 +84,39 @@ on_backslash b bytes ih =
     by_test P (b == 120) _ _
     (λ q text h. let t = ih High text h in
     (b ∷ t.0, longer b bytes t.0 _ t.1, subst (λ (k : ℕ). SpellsText text (92 ∷ k ∷ t.0)) (sym (eqb-true b 120 q)) t.2))
-    (λ q. given_is Backslash b bytes (escaped b) (ih Among)
-    (λ byte others inner e more. (92 ∷ b ∷ [], inner, refl, inr (inl (record { letter = b; written = refl; value = e })), more)))
+    (λ q. on_given b bytes ih (escaped b) refl)
 
-on_high : (b : ℕ) (bytes : List ℕ) (ih : (place : Place) → ScanIs place bytes (scan place bytes)) → ScanIs High (b ∷ bytes) (scan High (b ∷ bytes))
-on_high b bytes ih text h =
-    let t = ih (Low (hex_value b)) text h in
-    (b ∷ t.0, longer b bytes t.0 _ t.1, t.2 b refl)
+-- where a digit must stand, another byte leaves no text
+on_none : (place : Place) (b : ℕ) (bytes : List ℕ) (rest : Place → Scanned) → ScanIs place (b ∷ bytes) (scan_on (no_digit b) bytes rest)
+on_none place b bytes rest =
+    let P : Effect → Type 0 = λ e. ScanIs place (b ∷ bytes) (scan_on e bytes rest) in
+    by_test P (b == 34) _ _ (λ q text h. cc) (λ q. by_test P (b == 92) _ _ (λ s text h. cc) (λ s text h. cc))
 
-hexadecimal : (first second byte : ℕ) (high low : Option ℕ) → hex_value first ≡ high → hex_value second ≡ low → byte_of_hex high low ≡ Some byte → IsHexadecimal byte (92 ∷ 120 ∷ first ∷ second ∷ [])
-hexadecimal first second byte None low f s h = cc
-hexadecimal first second byte (Some high) None f s h = cc
-hexadecimal first second byte (Some high) (Some low) f s h =
-    record { first = first; second = second; high = high; low = low; written = refl; first_value = f; second_value = s; value = sym (some_is _ byte h) }
+on_high : (b : ℕ) (bytes : List ℕ) (ih : (place : Place) → ScanIs place bytes (scan place bytes)) (high : Option ℕ) → hex_value b ≡ high
+    → ScanIs High (b ∷ bytes) (scan_on (high_digit high b) bytes (λ next. scan next bytes))
+on_high b bytes ih None e = on_none High b bytes (λ next. scan next bytes)
+on_high b bytes ih (Some high) e =
+    λ text h. let t = ih (Low high) text h in
+    (b ∷ t.0, longer b bytes t.0 _ t.1, t.2 b e)
 
-on_low : (high : Option ℕ) (b : ℕ) (bytes : List ℕ) (ih : (place : Place) → ScanIs place bytes (scan place bytes)) → ScanIs (Low high) (b ∷ bytes) (scan (Low high) (b ∷ bytes))
-on_low high b bytes ih =
-    given_is (Low high) b bytes (byte_of_hex high (hex_value b)) (ih Among)
-    (λ byte others inner e more first f. (92 ∷ 120 ∷ first ∷ b ∷ [], inner, refl, inr (inr (hexadecimal first b byte high (hex_value b) f refl e)), more))
+on_low : (high b : ℕ) (bytes : List ℕ) (ih : (place : Place) → ScanIs place bytes (scan place bytes)) (low : Option ℕ) → hex_value b ≡ low
+    → ScanIs (Low high) (b ∷ bytes) (scan_on (low_digit high low b) bytes (λ next. scan next bytes))
+on_low high b bytes ih None e = on_none (Low high) b bytes (λ next. scan next bytes)
+on_low high b bytes ih (Some low) e =
+    given_is (Low high) b bytes (16 * high + low) (ih Among)
+    (λ others inner more first f. (
+    92 ∷ 120 ∷ first ∷ b ∷ [],
+    inner,
+    refl,
+    inr (inr (record { first = first; second = b; high = high; low = low; written = refl; first_value = f; second_value = e; value = refl })),
+    more,
+    ))
 
 on_byte : (place : Place) (b : ℕ) (bytes : List ℕ) (ih : (place : Place) → ScanIs place bytes (scan place bytes)) → ScanIs place (b ∷ bytes) (scan place (b ∷ bytes))
 on_byte Among b bytes ih = on_among b bytes ih
 on_byte Backslash b bytes ih = on_backslash b bytes ih
-on_byte High b bytes ih = on_high b bytes ih
-on_byte (Low high) b bytes ih = on_low high b bytes ih
+on_byte High b bytes ih = on_high b bytes ih (hex_value b) refl
+on_byte (Low high) b bytes ih = on_low high b bytes ih (hex_value b) refl
 
 scan_is : (bytes : List ℕ) (place : Place) → ScanIs place bytes (scan place bytes)
 scan_is [] place = λ text h. cc
@@ -230,7 +227,7 @@ words_by n bytes (b ∷ behind) f few ih good =
     let size : length bytes ≡ length f.spaces + (length w.word + length t.1) = ap (λ (k : List ℕ). length k) split ∙ length-append f.spaces (w.word ++ t.1) ∙ ap (λ (k : ℕ). length f.spaces + k) (length-append w.word t.1) in
     (f.spaces, w.word, t.1, split, f.all, w.spelled, w.ends, ih t.1 (omega arith) g.1)
 
-words_found : (n : ℕ) (bytes : List ℕ) → length bytes ≤ n → AreGood (words_within n bytes) → SpellsWords (words_within n bytes) bytes
+pub words_found : (n : ℕ) (bytes : List ℕ) → length bytes ≤ n → AreGood (words_within n bytes) → SpellsWords (words_within n bytes) bytes
 words_found zero [] few good = refl
 words_found zero (b ∷ bytes) few good = absurd (omega arith)
 words_found (suc n) bytes few good = words_by n bytes (drop_spaces bytes) (front bytes) few (λ rest less h. words_found n rest less h) good
@@ -265,7 +262,7 @@ token_good (Quoted (Some text)) word s = refl
 token_good (Quoted None) word s = absurd s
 token_good Glued word s = absurd s
 
-words_good : (words : List Token) (bytes : List ℕ) → SpellsWords words bytes → AreGood words
+pub words_good : (words : List Token) (bytes : List ℕ) → SpellsWords words bytes → AreGood words
 words_good [] bytes s = refl
 words_good (token ∷ tokens) bytes s =
     ap (λ (k : Bool). k && list_all is_good tokens) (token_good token s.1 s.5) ∙ words_good tokens s.2 s.7

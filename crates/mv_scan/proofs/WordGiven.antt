@@ -8,7 +8,7 @@ use Rattle.mv_scan.specs.declared.token.Token.TheVariants.{Plain, Quoted, Glued}
 use Rattle.mv_scan.specs.declared.scan.Place.TheVariants.{Among, Backslash}
 use Rattle.mv_scan.specs.declared.scan.Effect.{Effect}
 use Rattle.mv_scan.specs.declared.scan.Effect.TheVariants.{Gives}
-use Rattle.mv_scan.specs.Words.{hex_value, escaped, byte_of_hex, Scanned, with_byte, step_of, scan_on, scan, drop_spaces, word_len, quoted, word_at, first_word, words_within, is_comment, words_of}
+use Rattle.mv_scan.specs.Words.{escaped, given_by, high_digit, low_digit, Scanned, with_byte, step_of, scan_on, scan, drop_spaces, word_len, quoted, word_at, first_word, words_within, is_comment, words_of}
 use Rattle.mv_scan.specs.WordGrammar.{IsItself, SpellsByte, SpellsText, SpellsToken, AreSpaces, EndsWord, SpellsWords, SpellsLine}
 use Rattle.mv_scan.proofs.GrammarFinds.{both_true, both_false}
 use Rattle.mv_scan.proofs.WordSteps.{step_by, stop_by}
@@ -25,7 +25,7 @@ if_false false x y h = refl
 
 -- ## Texts
 
-itself_steps : (byte : ℕ) (bytes : List ℕ) → IsItself byte bytes → step_of Among byte ≡ Gives (Some byte)
+itself_steps : (byte : ℕ) (bytes : List ℕ) → IsItself byte bytes → step_of Among byte ≡ Gives byte
 itself_steps byte bytes s =
     let low : nat_le 32 byte ≡ true = le-leb 32 byte s.from in
     let high : nat_le byte 126 ≡ true = le-leb byte 126 s.to in
@@ -36,10 +36,10 @@ itself_steps byte bytes s =
 is_no_x : (letter byte : ℕ) → escaped letter ≡ Some byte → letter ≢ 120
 is_no_x letter byte h e = let k : escaped 120 ≡ Some byte = subst (λ (c : ℕ). escaped c ≡ Some byte) e h in cc
 
-escape_steps : (letter byte : ℕ) → escaped letter ≡ Some byte → step_of Backslash letter ≡ Gives (Some byte)
-escape_steps letter byte h = if_false (letter == 120) _ _ (ne_eqb letter 120 (is_no_x letter byte h)) ∙ ap (λ (o : Option ℕ). Gives o) h
+escape_steps : (letter byte : ℕ) → escaped letter ≡ Some byte → step_of Backslash letter ≡ Gives byte
+escape_steps letter byte h = if_false (letter == 120) _ _ (ne_eqb letter 120 (is_no_x letter byte h)) ∙ ap (λ (o : Option ℕ). given_by o) h
 
-byte_scanned : (byte : ℕ) (first rest : List ℕ) → SpellsByte byte first → scan Among (first ++ rest) ≡ with_byte (Some byte) (scan Among rest)
+byte_scanned : (byte : ℕ) (first rest : List ℕ) → SpellsByte byte first → scan Among (first ++ rest) ≡ with_byte byte (scan Among rest)
 byte_scanned byte first rest (inl s) =
     ap (λ (k : List ℕ). scan Among (k ++ rest)) s.written
     ∙ ap (λ (e : Effect). scan_on e rest (λ next. scan next rest)) (itself_steps byte first s)
@@ -48,9 +48,9 @@ byte_scanned byte first rest (inr (inl s)) =
     ∙ ap (λ (e : Effect). scan_on e rest (λ next. scan next rest)) (escape_steps s.letter byte s.value)
 byte_scanned byte first rest (inr (inr s)) =
     ap (λ (k : List ℕ). scan Among (k ++ rest)) s.written
-    ∙ ap (λ (o : Option ℕ). with_byte (byte_of_hex o (hex_value s.second)) (scan Among rest)) s.first_value
-    ∙ ap (λ (o : Option ℕ). with_byte (byte_of_hex (Some s.high) o) (scan Among rest)) s.second_value
-    ∙ ap (λ (k : ℕ). with_byte (Some k) (scan Among rest)) (sym s.value)
+    ∙ ap (λ (o : Option ℕ). scan_on (high_digit o s.first) (s.second ∷ rest) (λ next. scan next (s.second ∷ rest))) s.first_value
+    ∙ ap (λ (o : Option ℕ). scan_on (low_digit s.high o s.second) rest (λ next. scan next rest)) s.second_value
+    ∙ ap (λ (k : ℕ). with_byte k (scan Among rest)) (sym s.value)
 
 text_scanned : (text bytes rest : List ℕ) → SpellsText text bytes → ◌≡◌ {A = Scanned} (scan Among (bytes ++ (34 ∷ rest))) (Some text, rest)
 text_scanned [] bytes rest s = ap (λ (k : List ℕ). scan Among (k ++ (34 ∷ rest))) s
@@ -58,7 +58,7 @@ text_scanned (byte ∷ text) bytes rest s =
     ap (λ (k : List ℕ). scan Among (k ++ (34 ∷ rest))) s.2
     ∙ ap (λ (k : List ℕ). scan Among k) (append_assoc s.0 s.1 (34 ∷ rest))
     ∙ byte_scanned byte s.0 (s.1 ++ (34 ∷ rest)) s.3
-    ∙ ap (λ (k : Scanned). with_byte (Some byte) k) (text_scanned text s.1 rest s.4)
+    ∙ ap (λ (k : Scanned). with_byte byte k) (text_scanned text s.1 rest s.4)
 
 -- ## Words
 
@@ -132,7 +132,7 @@ starts Glued word rest s e = absurd s
 
 -- ## Lines
 
-words_given : (tokens : List Token) (n : ℕ) (bytes : List ℕ) → length bytes ≤ n → SpellsWords tokens bytes → words_within n bytes ≡ tokens
+pub words_given : (tokens : List Token) (n : ℕ) (bytes : List ℕ) → length bytes ≤ n → SpellsWords tokens bytes → words_within n bytes ≡ tokens
 words_given [] n bytes few s = stop_by n bytes (ap (λ (k : List ℕ). first_word k) (all_dropped bytes s))
 words_given (token ∷ tokens) zero bytes few s =
     let t = starts token s.1 s.2 s.5 s.6 in

@@ -7,7 +7,7 @@ use Rattle.mv_scan.specs.declared.token.Token.TheVariants.{Plain, Quoted, Glued}
 use Rattle.mv_scan.specs.declared.scan.Place.{Place}
 use Rattle.mv_scan.specs.declared.scan.Place.TheVariants.{Among, Backslash, High, Low}
 use Rattle.mv_scan.specs.declared.scan.Effect.{Effect}
-use Rattle.mv_scan.specs.declared.scan.Effect.TheVariants.{Closes, Leads, Gives}
+use Rattle.mv_scan.specs.declared.scan.Effect.TheVariants.{Closes, Leads, Gives, Spoils, Breaks}
 
 -- ## Texts
 
@@ -28,36 +28,49 @@ escaped b =
 abbrev pub Scanned : Type 0
 Scanned = Option (List ℕ) × List ℕ
 
-abbrev pub with_byte : Option ℕ → Scanned → Scanned
-with_byte None s = (None, s.1)
-with_byte (Some b) s = (option_map (λ text. b ∷ text) s.0, s.1)
+abbrev pub with_byte : ℕ → Scanned → Scanned
+with_byte b s = (option_map (λ text. b ∷ text) s.0, s.1)
 
-abbrev pub byte_of_hex : Option ℕ → Option ℕ → Option ℕ
-byte_of_hex None low = None
-byte_of_hex (Some high) None = None
-byte_of_hex (Some high) (Some low) = Some (16 * high + low)
+abbrev pub given_by : Option ℕ → Effect
+given_by None = Spoils Among
+given_by (Some b) = Gives b
+
+-- where a digit must stand, another byte is read as one among the others; there is no text
+abbrev pub no_digit : ℕ → Effect
+no_digit b = if b == 34 then Breaks else if b == 92 then Spoils Backslash else Spoils Among
+
+abbrev pub high_digit : Option ℕ → ℕ → Effect
+high_digit None b = no_digit b
+high_digit (Some high) b = Leads (Low high)
+
+abbrev pub low_digit : ℕ → Option ℕ → ℕ → Effect
+low_digit high None b = no_digit b
+low_digit high (Some low) b = Gives (16 * high + low)
 
 abbrev pub step_of : Place → ℕ → Effect
 step_of Among b =
     if b == 34 then Closes else if b == 92 then Leads Backslash
-    else if nat_le 32 b && nat_le b 126 then Gives (Some b) else Gives None
-step_of Backslash b = if b == 120 then Leads High else Gives (escaped b)
-step_of High b = Leads (Low (hex_value b))
-step_of (Low high) b = Gives (byte_of_hex high (hex_value b))
+    else if nat_le 32 b && nat_le b 126 then Gives b else Spoils Among
+step_of Backslash b = if b == 120 then Leads High else given_by (escaped b)
+step_of High b = high_digit (hex_value b) b
+step_of (Low high) b = low_digit high (hex_value b) b
 
 -- a first digit is one
 abbrev pub IsPlace : Place → Type 0
-IsPlace (Low (Some high)) = high < 16
+IsPlace (Low high) = high < 16
 IsPlace place = Unit {0}
 
 abbrev pub LeadsToPlace : Effect → Type 0
 LeadsToPlace (Leads place) = IsPlace place
+LeadsToPlace (Spoils place) = IsPlace place
 LeadsToPlace effect = Unit {0}
 
 abbrev pub scan_on : Effect → List ℕ → (Place → Scanned) → Scanned
 scan_on Closes bytes rest = (Some [], bytes)
 scan_on (Leads place) bytes rest = rest place
 scan_on (Gives byte) bytes rest = with_byte byte (rest Among)
+scan_on (Spoils place) bytes rest = (None, (rest place).1)
+scan_on Breaks bytes rest = (None, bytes)
 
 -- the text after its opening quote, up to its closing one, and the bytes behind that
 abbrev pub scan : Place → List ℕ → Scanned

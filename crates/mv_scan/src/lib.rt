@@ -12,7 +12,7 @@ mod tokens;
 mod words;
 
 pub use found::{Found, both};
-pub use laws::words_are_spelled;
+pub use laws::{a_word_is_its_bytes, numbers_are_spelled, words_are_spelled};
 pub use lines::first_line;
 pub use names::is_name;
 pub use number::{number_word, read_number, short_word};

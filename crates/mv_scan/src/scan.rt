@@ -1,25 +1,28 @@
 //! Texts in quotes.
 ghost use Rattle.std.specs.Prelude.{◌≡◌, ◌<◌, IfOk, IfSome};
-ghost use Rattle.mv_scan.specs.Words.{escaped, byte_of_hex, hex_value, scan, step_of, IsPlace, LeadsToPlace, Scanned};
+ghost use Rattle.mv_scan.specs.Words.{escaped, given_by, hex_value, no_digit, scan, step_of, IsPlace, LeadsToPlace};
 
 use mv_calls::{Bytes, OutOfMemory};
 use std::alloc::Global;
 
-/// Where a text has got to: among its bytes, behind a backslash, or at the first or second digit behind `\x`.
+/// Where a text has got to: among its bytes, behind a backslash, behind `\x`, or behind `\x` and a first digit.
 #[derive(Clone, Copy)]
 pub enum Place {
     Among,
     Backslash,
     High,
-    Low(Option<u8>),
+    Low(u8),
 }
 
-/// What a byte does: it closes the text, or leads on, or gives a byte, or none where it may not stand.
+/// What a byte does: it closes the text, leads on, or gives a byte of it. Where it may not stand there is no text, whose end is
+/// still looked for: it leads on all the same, or closes it.
 #[derive(Clone, Copy)]
 pub enum Effect {
     Closes,
     Leads(Place),
-    Gives(Option<u8>),
+    Gives(u8),
+    Spoils(Place),
+    Breaks,
 }
 
 fn hex_value(byte: u8) -> Option<u8>
@@ -48,6 +51,29 @@ fn escaped(byte: u8) -> Option<u8>
     }
 }
 
+/// A byte that is given, or one that may not stand.
+fn given_by(byte: Option<u8>) -> Effect
+    ensures effect { result ≡ given_by byte }
+    ensures place { LeadsToPlace result }
+{
+    match byte {
+        Some(byte) => Effect::Gives(byte),
+        None => Effect::Spoils(Place::Among),
+    }
+}
+
+/// A byte in a digit's place that is none: it is read as one among the others.
+fn no_digit(byte: u8) -> Effect
+    ensures effect { result ≡ no_digit byte }
+    ensures place { LeadsToPlace result }
+{
+    match byte {
+        b'"' => Effect::Breaks,
+        b'\\' => Effect::Spoils(Place::Backslash),
+        _ => Effect::Spoils(Place::Among),
+    }
+}
+
 fn step(place: Place, byte: u8) -> Effect
     requires { IsPlace place }
     ensures effect { result ≡ step_of place byte }
@@ -57,26 +83,29 @@ fn step(place: Place, byte: u8) -> Effect
         Place::Among => match byte {
             b'"' => Effect::Closes,
             b'\\' => Effect::Leads(Place::Backslash),
-            0x20..=0x7E => Effect::Gives(Some(byte)),
-            _ => Effect::Gives(None),
+            0x20..=0x7E => Effect::Gives(byte),
+            _ => Effect::Spoils(Place::Among),
         },
         Place::Backslash => {
             if byte == b'x' {
                 Effect::Leads(Place::High)
             } else {
-                Effect::Gives(escaped(byte))
+                given_by(escaped(byte))
             }
         }
-        Place::High => Effect::Leads(Place::Low(hex_value(byte))),
-        Place::Low(high) => match (high, hex_value(byte)) {
-            (Some(high), Some(low)) => Effect::Gives(Some(16 * high + low)),
-            _ => Effect::Gives(None),
+        Place::High => match hex_value(byte) {
+            Some(high) => Effect::Leads(Place::Low(high)),
+            None => no_digit(byte),
+        },
+        Place::Low(high) => match hex_value(byte) {
+            Some(low) => Effect::Gives(16 * high + low),
+            None => no_digit(byte),
         },
     }
 }
 
 /// A text after its opening quote, up to its closing one, and the bytes behind that. It is none where it doesn't end or has
-/// another byte or escape.
+/// another byte or escape. A backslash takes the byte behind it along, so `\"` closes no text; each other quote does.
 pub fn scan_text(alloc: Global, bytes: &[u8]) -> Result<(Option<Bytes>, &[u8]), OutOfMemory>
     ensures { IfOk result (λ scanned. (scanned.0, scanned.1.now) ≡ scan Place.Among bytes.now) }
 {
@@ -95,13 +124,15 @@ pub fn scan_text(alloc: Global, bytes: &[u8]) -> Result<(Option<Bytes>, &[u8]), 
                 },
                 rest,
             )),
+            Effect::Breaks => return Ok((None, rest)),
             Effect::Leads(next) => place = next,
-            Effect::Gives(given) => {
+            Effect::Spoils(next) => {
+                place = next;
+                good = false;
+            }
+            Effect::Gives(value) => {
                 place = Place::Among;
-                match given {
-                    Some(value) => text.push(value)?,
-                    None => good = false,
-                }
+                text.push(value)?;
             }
         }
     }

@@ -1,7 +1,9 @@
 //! The words of a line.
-ghost use Rattle.std.specs.Prelude.{◌≡◌, ◌≤◌, IfOk, length};
+ghost use Rattle.std.specs.Prelude.{◌≡◌, ◌↔◌, ◌≤◌, IfOk, List, length};
 ghost use Rattle.std.specs.Option.{option_map};
-ghost use Rattle.mv_scan.specs.Words.{drop_spaces, first_word, is_comment, word_len, words_of, words_within};
+ghost use Rattle.mv_scan.specs.declared.token.Token.{Token};
+ghost use Rattle.mv_scan.specs.Words.{drop_spaces, first_word, word_len, words_of, words_within};
+ghost use Rattle.mv_scan.specs.WordGrammar.{AreGood, SpellsLine, SpellsWords};
 
 use crate::scan::scan_text;
 use crate::token::Token;
@@ -55,8 +57,7 @@ fn next_word(alloc: Global, bytes: &[u8]) -> Result<Option<(Token, &[u8])>, OutO
     }
 }
 
-/// The words of a line that is no comment.
-pub fn split_words(alloc: Global, line: &[u8]) -> Result<Vec<Token>, OutOfMemory>
+fn find_words(alloc: Global, line: &[u8]) -> Result<Vec<Token>, OutOfMemory>
     ensures { IfOk result (λ words. words.items ≡ words_within (length line.now) line.now) }
 {
     let mut words = Vec::new(alloc);
@@ -73,12 +74,29 @@ pub fn split_words(alloc: Global, line: &[u8]) -> Result<Vec<Token>, OutOfMemory
     Ok(words)
 }
 
-/// The words of a line; none where its first byte behind spaces is `;`.
-pub fn split_line(alloc: Global, line: &[u8]) -> Result<Vec<Token>, OutOfMemory>
+/// The words of bytes among which no comment is looked for. Words spell the bytes exactly where they are the ones found and
+/// none of these is a broken text, or a text that bytes follow without a space. The error is want of memory.
+pub fn split_words(alloc: Global, line: &[u8]) -> Result<Vec<Token>, OutOfMemory>
+    ensures words { IfOk result (λ found. found.items ≡ words_within (length line.now) line.now) }
+    ensures spelled { IfOk result (λ found. (words : List Token) → SpellsWords words line.now ↔ ((found.items ≡ words) × AreGood words)) }
+{
+    find_words(alloc, line)
+}
+
+fn find_line(alloc: Global, line: &[u8]) -> Result<Vec<Token>, OutOfMemory>
     ensures { IfOk result (λ words. words.items ≡ words_of line.now) }
 {
     match skip_spaces(line) {
         [b';', ..] => Ok(Vec::new(alloc)),
-        _ => split_words(alloc, line),
+        _ => find_words(alloc, line),
     }
+}
+
+/// The words of a line; none where its first byte behind spaces is `;`. Words spell the line exactly where they are the ones
+/// found and none of these is a broken text, or a text that bytes follow without a space. The error is want of memory.
+pub fn split_line(alloc: Global, line: &[u8]) -> Result<Vec<Token>, OutOfMemory>
+    ensures words { IfOk result (λ found. found.items ≡ words_of line.now) }
+    ensures spelled { IfOk result (λ found. (words : List Token) → SpellsLine words line.now ↔ ((found.items ≡ words) × AreGood words)) }
+{
+    find_line(alloc, line)
 }

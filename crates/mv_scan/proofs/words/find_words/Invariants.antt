@@ -1,6 +1,6 @@
 use Rattle.std.proofs.Common.{◌≡◌, ◌++◌, ◌-◌, length}
 use Rattle.mv_scan.specs.Words.{words_within}
-use Rattle.mv_scan.proofs.words.split_words.Given as goal
+use Rattle.mv_scan.proofs.words.find_words.Given as goal
 
 -- the words so far, and those of the rest
 abbrev pub invariant-loop : goal.invariant-loop
