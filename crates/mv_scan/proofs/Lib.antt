@@ -5,6 +5,9 @@ pub mod Decimals
 pub mod GrammarFinds
 pub mod NumberLaws
 pub mod TokenLaws
+pub mod TextGiven
+pub mod TextFound
+pub mod TextEnds
 pub mod WordGiven
 pub mod WordFound
 pub mod WordLaws

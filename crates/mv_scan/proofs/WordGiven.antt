@@ -1,64 +1,19 @@
 -- The words that spell a line are found.
-use Rattle.std.proofs.Common.{◌≡◌, ◌≢◌, inl, inr, ℕ, zero, suc, ◌+◌, ◌≤◌, ◌&&◌, ◌==◌, Bool, true, false, List, [], ◌∷◌, ◌++◌, length, take, drop, refl, ap, sym, ◌∙◌, subst, arith, append_assoc, length-append, Option, Some, None, ne_eqb, le-leb}
+use Rattle.std.proofs.Common.{◌≡◌, ◌≢◌, inl, inr, ℕ, zero, suc, ◌+◌, ◌≤◌, ◌==◌, Bool, true, false, List, [], ◌∷◌, ◌++◌, length, take, drop, refl, ap, sym, ◌∙◌, subst, arith, append_assoc, append-nil, length-append, Option, Some, None, ne_eqb}
+use Rattle.std.proofs.lemmas.List.{append_cancel_right}
 use Rattle.std.proofs.Math.Seq.{take-append_seam, drop-append_seam}
-use Rattle.std.specs.Prelude.{if◌then◌else◌, nat_le}
+use Rattle.std.specs.Prelude.{if◌then◌else◌}
 use Rattle.std.specs.List.{list_all, list_any}
 use Rattle.mv_scan.specs.declared.token.Token.{Token}
 use Rattle.mv_scan.specs.declared.token.Token.TheVariants.{Plain, Quoted, Glued}
-use Rattle.mv_scan.specs.declared.scan.Place.TheVariants.{Among, Backslash}
-use Rattle.mv_scan.specs.declared.scan.Effect.{Effect}
-use Rattle.mv_scan.specs.declared.scan.Effect.TheVariants.{Gives}
-use Rattle.mv_scan.specs.Words.{escaped, given_by, high_digit, low_digit, Scanned, with_byte, step_of, scan_on, scan, drop_spaces, word_len, quoted, word_at, first_word, words_within, is_comment, words_of}
-use Rattle.mv_scan.specs.WordGrammar.{IsItself, SpellsByte, SpellsText, SpellsToken, AreSpaces, EndsWord, SpellsWords, SpellsLine}
+use Rattle.mv_scan.specs.declared.scan.Place.TheVariants.{Among}
+use Rattle.mv_scan.specs.Words.{Scanned, scan, drop_spaces, word_len, quoted, word_at, first_word, words_within, is_comment, words_of}
+use Rattle.mv_scan.specs.WordGrammar.{SpellsText, IsInner, IsSpoilt, IsUnended, IsGlued, SpellsToken, AreSpaces, EndsWord, SpellsWords, SpellsLine}
 use Rattle.mv_scan.proofs.GrammarFinds.{both_true, both_false}
+use Rattle.mv_scan.proofs.TextGiven.{if_true, if_false, text_scanned}
+use Rattle.mv_scan.proofs.TextFound.{scan_is}
+use Rattle.mv_scan.proofs.TextEnds.{closed_end, open_end}
 use Rattle.mv_scan.proofs.WordSteps.{step_by, stop_by}
-
--- ## Tests
-
-if_true : {A : Type 0} (b : Bool) (x y : A) → b ≡ true → (if b then x else y) ≡ x
-if_true true x y h = refl
-if_true false x y h = cc
-
-if_false : {A : Type 0} (b : Bool) (x y : A) → b ≡ false → (if b then x else y) ≡ y
-if_false true x y h = cc
-if_false false x y h = refl
-
--- ## Texts
-
-itself_steps : (byte : ℕ) (bytes : List ℕ) → IsItself byte bytes → step_of Among byte ≡ Gives byte
-itself_steps byte bytes s =
-    let low : nat_le 32 byte ≡ true = le-leb 32 byte s.from in
-    let high : nat_le byte 126 ≡ true = le-leb byte 126 s.to in
-    if_false (byte == 34) _ _ (ne_eqb byte 34 s.no_quote)
-    ∙ if_false (byte == 92) _ _ (ne_eqb byte 92 s.no_backslash)
-    ∙ if_true (nat_le 32 byte && nat_le byte 126) _ _ (ap (λ (b : Bool). b && nat_le byte 126) low ∙ high)
-
-is_no_x : (letter byte : ℕ) → escaped letter ≡ Some byte → letter ≢ 120
-is_no_x letter byte h e = let k : escaped 120 ≡ Some byte = subst (λ (c : ℕ). escaped c ≡ Some byte) e h in cc
-
-escape_steps : (letter byte : ℕ) → escaped letter ≡ Some byte → step_of Backslash letter ≡ Gives byte
-escape_steps letter byte h = if_false (letter == 120) _ _ (ne_eqb letter 120 (is_no_x letter byte h)) ∙ ap (λ (o : Option ℕ). given_by o) h
-
-byte_scanned : (byte : ℕ) (first rest : List ℕ) → SpellsByte byte first → scan Among (first ++ rest) ≡ with_byte byte (scan Among rest)
-byte_scanned byte first rest (inl s) =
-    ap (λ (k : List ℕ). scan Among (k ++ rest)) s.written
-    ∙ ap (λ (e : Effect). scan_on e rest (λ next. scan next rest)) (itself_steps byte first s)
-byte_scanned byte first rest (inr (inl s)) =
-    ap (λ (k : List ℕ). scan Among (k ++ rest)) s.written
-    ∙ ap (λ (e : Effect). scan_on e rest (λ next. scan next rest)) (escape_steps s.letter byte s.value)
-byte_scanned byte first rest (inr (inr s)) =
-    ap (λ (k : List ℕ). scan Among (k ++ rest)) s.written
-    ∙ ap (λ (o : Option ℕ). scan_on (high_digit o s.first) (s.second ∷ rest) (λ next. scan next (s.second ∷ rest))) s.first_value
-    ∙ ap (λ (o : Option ℕ). scan_on (low_digit s.high o s.second) rest (λ next. scan next rest)) s.second_value
-    ∙ ap (λ (k : ℕ). with_byte k (scan Among rest)) (sym s.value)
-
-text_scanned : (text bytes rest : List ℕ) → SpellsText text bytes → ◌≡◌ {A = Scanned} (scan Among (bytes ++ (34 ∷ rest))) (Some text, rest)
-text_scanned [] bytes rest s = ap (λ (k : List ℕ). scan Among (k ++ (34 ∷ rest))) s
-text_scanned (byte ∷ text) bytes rest s =
-    ap (λ (k : List ℕ). scan Among (k ++ (34 ∷ rest))) s.2
-    ∙ ap (λ (k : List ℕ). scan Among k) (append_assoc s.0 s.1 (34 ∷ rest))
-    ∙ byte_scanned byte s.0 (s.1 ++ (34 ∷ rest)) s.3
-    ∙ ap (λ (k : Scanned). with_byte byte k) (text_scanned text s.1 rest s.4)
 
 -- ## Words
 
@@ -92,15 +47,16 @@ plain_first b word rest q h e =
     (ap (λ (n : ℕ). take n (b ∷ (word ++ rest))) l ∙ take-append_seam (b ∷ word) rest)
     (ap (λ (n : ℕ). drop n (b ∷ (word ++ rest))) l ∙ drop-append_seam (b ∷ word) rest)
 
-quoted_end : (text rest : List ℕ) → EndsWord rest → ◌≡◌ {A = Token × List ℕ} (quoted (Some text, rest)) (Quoted (Some text), rest)
-quoted_end text [] e = refl
-quoted_end text (b ∷ rest) e = subst (λ (k : ℕ). ◌≡◌ {A = Token × List ℕ} (quoted (Some text, k ∷ rest)) (Quoted (Some text), k ∷ rest)) (sym e) refl
+quoted_end : (o : Option (List ℕ)) (rest : List ℕ) → EndsWord rest → ◌≡◌ {A = Token × List ℕ} (quoted (o, rest)) (Quoted o, rest)
+quoted_end o [] e = refl
+quoted_end o (b ∷ rest) e = subst (λ (k : ℕ). ◌≡◌ {A = Token × List ℕ} (quoted (o, k ∷ rest)) (Quoted o, k ∷ rest)) (sym e) refl
 
-quoted_first : (text inner rest : List ℕ) → SpellsText text inner → EndsWord rest → ◌≡◌ {A = Token × List ℕ} (word_at 34 ((inner ++ (34 ∷ [])) ++ rest)) (Quoted (Some text), rest)
-quoted_first text inner rest s e =
+quoted_first : (o : Option (List ℕ)) (inner rest : List ℕ) → ◌≡◌ {A = Scanned} (scan Among (inner ++ (34 ∷ rest))) (o, rest) → EndsWord rest
+    → ◌≡◌ {A = Token × List ℕ} (word_at 34 ((inner ++ (34 ∷ [])) ++ rest)) (Quoted o, rest)
+quoted_first o inner rest s e =
     ap (λ (k : List ℕ). quoted (scan Among k)) (append_assoc inner (34 ∷ []) rest)
-    ∙ ap (λ (k : Scanned). quoted k) (text_scanned text inner rest s)
-    ∙ quoted_end text rest e
+    ∙ ap (λ (k : Scanned). quoted k) s
+    ∙ quoted_end o rest e
 
 -- the word stands in front of the rest
 pub record Starts (token : Token) (word rest : List ℕ) : Type 0 where
@@ -118,33 +74,89 @@ plain_starts b word rest q h e =
       no_comment = λ n. ap (λ (k : List ℕ). is_comment k) stays ∙ ne_eqb b 59 (λ same. n word (ap (λ (k : ℕ). Plain (k ∷ word)) same));
     }
 
-quoted_starts : (text inner rest : List ℕ) → SpellsText text inner → EndsWord rest → Starts (Quoted (Some text)) (34 ∷ (inner ++ (34 ∷ []))) rest
-quoted_starts text inner rest s e = record { found = ap (λ (k : Token × List ℕ). Some k) (quoted_first text inner rest s e); some = omega arith; no_comment = λ n. refl }
+-- a word that begins with a quote
+quote_starts : (token : Token) (word rest : List ℕ) → ◌≡◌ {A = Token × List ℕ} (word_at 34 (word ++ rest)) (token, rest) → Starts token (34 ∷ word) rest
+quote_starts token word rest h = record { found = ap (λ (k : Token × List ℕ). Some k) h; some = omega arith; no_comment = λ n. refl }
 
-pub starts : (token : Token) (word rest : List ℕ) → SpellsToken token word → EndsWord rest → Starts token word rest
-starts (Plain []) word rest s e = absurd s.1
-starts (Plain (b ∷ bytes)) word rest s e =
-    subst (λ (k : List ℕ). Starts (Plain (b ∷ bytes)) k rest) (sym s.0) (plain_starts b bytes rest s.1.0 s.1.1 e)
-starts (Quoted (Some text)) word rest s e =
-    subst (λ (k : List ℕ). Starts (Quoted (Some text)) k rest) (sym s.1) (quoted_starts text s.0 rest s.2 e)
-starts (Quoted None) word rest s e = absurd s
-starts Glued word rest s e = absurd s
+none_of : (o : Option (List ℕ)) → ((text : List ℕ) → o ≡ Some text → ⊥) → o ≡ None
+none_of None h = refl
+none_of (Some text) h = absurd (h text refl)
+
+scanned_by : (s : Scanned) (o : Option (List ℕ)) (rest : List ℕ) → s.0 ≡ o → s.1 ≡ rest → ◌≡◌ {A = Scanned} s (o, rest)
+scanned_by (p, more) o rest h k = cc
+
+spoilt_scanned : (inner rest : List ℕ) → IsInner inner → ((text : List ℕ) → SpellsText text inner → ⊥) → ◌≡◌ {A = Scanned} (scan Among (inner ++ (34 ∷ rest))) (None, rest)
+spoilt_scanned inner rest h none =
+    let s = scan Among (inner ++ (34 ∷ rest)) in
+    let end : s.1 ≡ rest = closed_end inner rest h in
+    scanned_by s None rest
+    (none_of s.0
+    (λ text e.
+    let t = scan_is (inner ++ (34 ∷ rest)) Among text e in
+    let same : inner ≡ t.0 = append_cancel_right inner t.0 (34 ∷ rest) (t.1 ∙ ap (λ (k : List ℕ). t.0 ++ (34 ∷ k)) end) in
+    none text (subst (λ (k : List ℕ). SpellsText text k) (sym same) t.2)))
+    end
+
+spoilt_starts : (word rest : List ℕ) → IsSpoilt word rest → Starts (Quoted None) word rest
+spoilt_starts word rest s =
+    subst (λ (k : List ℕ). Starts (Quoted None) k rest) (sym s.written)
+    (quote_starts (Quoted None) (s.inner ++ (34 ∷ [])) rest (quoted_first None s.inner rest (spoilt_scanned s.inner rest s.inside s.no_text) s.ends))
+
+unended_starts : (word rest : List ℕ) → IsUnended word rest → Starts (Quoted None) word rest
+unended_starts word rest s =
+    let e : ◌≡◌ {A = Token × List ℕ} (word_at 34 (s.inner ++ [])) (Quoted None, []) =
+    ap (λ (k : List ℕ). quoted (scan Among k)) (append-nil s.inner) ∙ ap (λ (k : Scanned). quoted k) (open_end s.inner s.inside) in
+    subst (λ (k : List ℕ). Starts (Quoted None) word k) (sym s.last)
+    (subst (λ (k : List ℕ). Starts (Quoted None) k []) (sym s.written) (quote_starts (Quoted None) s.inner [] e))
+
+glued_pair : (n m : ℕ) (o : Option (List ℕ)) (more rest : List ℕ) → n ≡ suc m → drop (suc m) more ≡ rest
+    → ◌≡◌ {A = Token × List ℕ} (if n == 0 then (Quoted o, more) else (Glued, drop n more)) (Glued, rest)
+glued_pair n m o more rest h k =
+    if_false (n == 0) _ _ (ne_eqb n 0 (λ z. let e : suc m ≡ 0 = sym h ∙ z in cc))
+    ∙ ap (λ (d : List ℕ). let t : Token × List ℕ = (Glued, d) in t) (ap (λ (i : ℕ). drop i more) h ∙ k)
+
+-- bytes behind a text
+glued_quoted : (s : Scanned) (first : ℕ) (others rest : List ℕ) → s.1 ≡ (first ∷ others) ++ rest → list_any (λ c. c == 32) (first ∷ others) ≡ false → EndsWord rest
+    → ◌≡◌ {A = Token × List ℕ} (quoted s) (Glued, rest)
+glued_quoted s first others rest h free e =
+    let n : word_len s.1 ≡ suc (length others) = ap (λ (k : List ℕ). word_len k) h ∙ word_length (first ∷ others) rest free e in
+    glued_pair (word_len s.1) (length others) s.0 s.1 rest n
+    (ap (λ (k : List ℕ). drop (suc (length others)) k) h ∙ drop-append_seam (first ∷ others) rest)
+
+glued_starts : (word rest : List ℕ) → IsGlued word rest → Starts Glued word rest
+glued_starts word rest s =
+    let e : ◌≡◌ {A = Token × List ℕ} (word_at 34 ((s.inner ++ (34 ∷ s.first ∷ s.others)) ++ rest)) (Glued, rest) =
+    ap (λ (k : List ℕ). quoted (scan Among k)) (append_assoc s.inner (34 ∷ s.first ∷ s.others) rest)
+    ∙ glued_quoted (scan Among (s.inner ++ (34 ∷ (s.first ∷ (s.others ++ rest))))) s.first s.others rest
+    (closed_end s.inner (s.first ∷ (s.others ++ rest)) s.inside) s.no_space s.ends in
+    subst (λ (k : List ℕ). Starts Glued k rest) (sym s.written) (quote_starts Glued (s.inner ++ (34 ∷ s.first ∷ s.others)) rest e)
+
+pub starts : (token : Token) (word rest : List ℕ) → SpellsToken token word rest → Starts token word rest
+starts (Plain []) word rest s = absurd s.1
+starts (Plain (b ∷ bytes)) word rest s =
+    subst (λ (k : List ℕ). Starts (Plain (b ∷ bytes)) k rest) (sym s.0) (plain_starts b bytes rest s.1.0 s.1.1 s.2)
+starts (Quoted (Some text)) word rest s =
+    subst (λ (k : List ℕ). Starts (Quoted (Some text)) k rest) (sym s.1)
+    (quote_starts (Quoted (Some text)) (s.0 ++ (34 ∷ [])) rest (quoted_first (Some text) s.0 rest (text_scanned text s.0 rest s.2) s.3))
+starts (Quoted None) word rest (inl s) = spoilt_starts word rest s
+starts (Quoted None) word rest (inr s) = unended_starts word rest s
+starts Glued word rest s = glued_starts word rest s
 
 -- ## Lines
 
 pub words_given : (tokens : List Token) (n : ℕ) (bytes : List ℕ) → length bytes ≤ n → SpellsWords tokens bytes → words_within n bytes ≡ tokens
 words_given [] n bytes few s = stop_by n bytes (ap (λ (k : List ℕ). first_word k) (all_dropped bytes s))
 words_given (token ∷ tokens) zero bytes few s =
-    let t = starts token s.1 s.2 s.5 s.6 in
+    let t = starts token s.1 s.2 s.5 in
     let some : 1 ≤ length s.1 = t.some in
     let size : length bytes ≡ length s.0 + (length s.1 + length s.2) = ap (λ (k : List ℕ). length k) s.3 ∙ length-append s.0 (s.1 ++ s.2) ∙ ap (λ (k : ℕ). length s.0 + k) (length-append s.1 s.2) in
     absurd (omega arith)
 words_given (token ∷ tokens) (suc n) bytes few s =
-    let t = starts token s.1 s.2 s.5 s.6 in
+    let t = starts token s.1 s.2 s.5 in
     let some : 1 ≤ length s.1 = t.some in
     let size : length bytes ≡ length s.0 + (length s.1 + length s.2) = ap (λ (k : List ℕ). length k) s.3 ∙ length-append s.0 (s.1 ++ s.2) ∙ ap (λ (k : ℕ). length s.0 + k) (length-append s.1 s.2) in
     step_by n bytes (token, s.2) (ap (λ (k : List ℕ). first_word (drop_spaces k)) s.3 ∙ ap (λ (k : List ℕ). first_word k) (spaces_dropped s.0 (s.1 ++ s.2) s.4) ∙ t.found)
-    ∙ ap (λ (k : List Token). token ∷ k) (words_given tokens n s.2 (omega arith) s.7)
+    ∙ ap (λ (k : List Token). token ∷ k) (words_given tokens n s.2 (omega arith) s.6)
 
 -- where a word begins behind the spaces
 front_dropped : (line spaces rest : List ℕ) → line ≡ spaces ++ rest → AreSpaces spaces → drop_spaces line ≡ drop_spaces rest
@@ -158,6 +170,6 @@ line_given [] line (inl s) =
     if_false (is_comment (drop_spaces line)) _ _ (ap (λ (k : List ℕ). is_comment k) (all_dropped line s)) ∙ words_given [] (length line) line (omega arith) s
 line_given [] line (inr s) = if_true (is_comment (drop_spaces line)) _ _ (is_comment_line line s.0 s.1 s.2 s.3)
 line_given (token ∷ tokens) line s =
-    let t = starts token s.1.1 s.1.2 s.1.5 s.1.6 in
+    let t = starts token s.1.1 s.1.2 s.1.5 in
     if_false (is_comment (drop_spaces line)) _ _ (ap (λ (k : List ℕ). is_comment k) (front_dropped line s.1.0 (s.1.1 ++ s.1.2) s.1.3 s.1.4) ∙ t.no_comment s.0)
     ∙ words_given (token ∷ tokens) (length line) line (omega arith) s.1

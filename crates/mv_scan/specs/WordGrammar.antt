@@ -1,5 +1,5 @@
 -- The words of a line, and the bytes that spell them (docs/FORMATS.md, "Rewrite rules"). Nothing here reads a line.
-use Rattle.std.specs.Prelude.{◌≡◌, ◌≢◌, ◌⊎◌, ◌≤◌, ◌+◌, ◌*◌, ◌==◌, ℕ, Bool, true, false, List, [], ◌∷◌, ◌++◌, Some, None}
+use Rattle.std.specs.Prelude.{◌≡◌, ◌≢◌, ◌⊎◌, ◌≤◌, ◌+◌, ◌*◌, ◌==◌, ℕ, true, false, List, [], ◌∷◌, ◌++◌, Some, None}
 use Rattle.std.specs.List.{list_all, list_any}
 use Rattle.mv_scan.specs.declared.token.Token.{Token}
 use Rattle.mv_scan.specs.declared.token.Token.TheVariants.{Plain, Quoted, Glued}
@@ -50,22 +50,53 @@ abbrev pub IsPlainWord : List ℕ → Type 0
 IsPlainWord [] = ⊥
 IsPlainWord (byte ∷ bytes) = (byte ≢ 34) × (list_any (λ b. b == 32) (byte ∷ bytes) ≡ false)
 
--- a plain word, or a text between `"` and `"`
-abbrev pub SpellsToken : Token → List ℕ → Type 0
-SpellsToken (Plain word) bytes = (bytes ≡ word) × IsPlainWord word
-SpellsToken (Quoted (Some text)) bytes = (inner : List ℕ) × (bytes ≡ 34 ∷ (inner ++ (34 ∷ []))) × SpellsText text inner
-SpellsToken (Quoted None) bytes = ⊥
-SpellsToken Glued bytes = ⊥
+-- what may stand between two quotes: bytes other than `"` and `\`, and `\` with the byte that it takes along
+abbrev pub IsInner : List ℕ → Type 0
+IsInner [] = Unit {0}
+IsInner (byte ∷ []) = (byte ≢ 34) × (byte ≢ 92)
+IsInner (byte ∷ next ∷ bytes) = ((byte ≢ 34) × (byte ≢ 92) × IsInner (next ∷ bytes)) ⊎ ((byte ≡ 92) × IsInner bytes)
 
--- neither a broken text nor one that bytes follow without a space
-abbrev pub is_good : Token → Bool
-is_good (Plain word) = true
-is_good (Quoted (Some text)) = true
-is_good (Quoted None) = false
-is_good Glued = false
+-- what may stand behind a quote that nothing closes; a backslash may be its last byte
+abbrev pub StaysOpen : List ℕ → Type 0
+StaysOpen bytes = IsInner bytes ⊎ ((before : List ℕ) × (bytes ≡ before ++ (92 ∷ [])) × IsInner before)
 
-abbrev pub AreGood : List Token → Type 0
-AreGood words = list_all is_good words ≡ true
+-- a word ends at a space or at the line's end
+abbrev pub EndsWord : List ℕ → Type 0
+EndsWord [] = Unit {0}
+EndsWord (byte ∷ bytes) = byte ≡ 32
+
+-- between `"` and `"` stands what spells no text
+pub record IsSpoilt (bytes rest : List ℕ) : Type 0 where
+  pub inner : List ℕ
+  pub written : bytes ≡ 34 ∷ (inner ++ (34 ∷ []))
+  pub inside : IsInner inner
+  pub no_text : (text : List ℕ) → SpellsText text inner → ⊥
+  pub ends : EndsWord rest
+
+-- a text that is open at the line's end
+pub record IsUnended (bytes rest : List ℕ) : Type 0 where
+  pub inner : List ℕ
+  pub written : bytes ≡ 34 ∷ inner
+  pub inside : StaysOpen inner
+  pub last : rest ≡ []
+
+-- behind the closing quote stands another byte than a space
+pub record IsGlued (bytes rest : List ℕ) : Type 0 where
+  pub inner : List ℕ
+  pub first : ℕ
+  pub others : List ℕ
+  pub written : bytes ≡ 34 ∷ (inner ++ (34 ∷ first ∷ others))
+  pub inside : IsInner inner
+  pub no_space : list_any (λ b. b == 32) (first ∷ others) ≡ false
+  pub ends : EndsWord rest
+
+-- the bytes of a word, before the rest of the line: a plain word, a text between `"` and `"`, a broken text, or a text that
+-- bytes follow without a space
+abbrev pub SpellsToken : Token → List ℕ → List ℕ → Type 0
+SpellsToken (Plain word) bytes rest = (bytes ≡ word) × IsPlainWord word × EndsWord rest
+SpellsToken (Quoted (Some text)) bytes rest = (inner : List ℕ) × (bytes ≡ 34 ∷ (inner ++ (34 ∷ []))) × SpellsText text inner × EndsWord rest
+SpellsToken (Quoted None) bytes rest = IsSpoilt bytes rest ⊎ IsUnended bytes rest
+SpellsToken Glued bytes rest = IsGlued bytes rest
 
 -- ## Numbers and names
 
@@ -87,22 +118,17 @@ pub record SpellsName (sign : ℕ) (name : List ℕ) (token : Token) : Type 0 wh
 abbrev pub AreSpaces : List ℕ → Type 0
 AreSpaces bytes = list_all (λ b. b == 32) bytes ≡ true
 
--- a word ends at a space or at the line's end
-abbrev pub EndsWord : List ℕ → Type 0
-EndsWord [] = Unit {0}
-EndsWord (byte ∷ bytes) = byte ≡ 32
-
 -- word by word, with spaces in front and behind, and between two at least one
 abbrev pub SpellsWords : List Token → List ℕ → Type 0
 SpellsWords [] bytes = AreSpaces bytes
 SpellsWords (token ∷ tokens) bytes =
-    (spaces : List ℕ) × (word : List ℕ) × (rest : List ℕ) × (bytes ≡ spaces ++ (word ++ rest)) × AreSpaces spaces × SpellsToken token word × EndsWord rest × SpellsWords tokens rest
+    (spaces : List ℕ) × (word : List ℕ) × (rest : List ℕ) × (bytes ≡ spaces ++ (word ++ rest)) × AreSpaces spaces × SpellsToken token word rest × SpellsWords tokens rest
 
 -- `;` behind spaces, then anything
 abbrev pub IsComment : List ℕ → Type 0
 IsComment line = (spaces : List ℕ) × (rest : List ℕ) × (line ≡ spaces ++ (59 ∷ rest)) × AreSpaces spaces
 
--- the words of a line, of which the first doesn't begin with `;`; a comment has none
+-- the words of a line, of which the first doesn't begin with `;`; a comment has none. Each line has exactly one list of words
 abbrev pub SpellsLine : List Token → List ℕ → Type 0
 SpellsLine [] line = AreSpaces line ⊎ IsComment line
 SpellsLine (token ∷ tokens) line = ((bytes : List ℕ) → token ≢ Plain (59 ∷ bytes)) × SpellsWords (token ∷ tokens) line

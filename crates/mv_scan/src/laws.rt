@@ -5,13 +5,13 @@ ghost use Rattle.mv_scan.specs.declared.token.Token.{Token};
 ghost use Rattle.mv_scan.specs.declared.token.Token.TheVariants.{Plain};
 ghost use Rattle.mv_scan.specs.Numbers.{number_of};
 ghost use Rattle.mv_scan.specs.Words.{is_word, words_of};
-ghost use Rattle.mv_scan.specs.WordGrammar.{AreGood, SpellsLine, SpellsNumber};
+ghost use Rattle.mv_scan.specs.WordGrammar.{SpellsLine, SpellsNumber};
 
-/// The words of a line are those that spell it (docs/FORMATS.md, "Rewrite rules"), with spaces in front, behind and between;
-/// each is a plain word, or a text in quotes with its escapes. A line of spaces alone has none, and a comment has none. Where
-/// no words spell a line, one of those that are found is a broken text, or a text that bytes follow without a space.
+/// The words of a line are exactly those that spell it (docs/FORMATS.md, "Words of a line"), with spaces in front, behind and
+/// between; each is a plain word, a text in quotes with its escapes, a broken text, or a text that bytes follow without a
+/// space. A line of spaces alone has none, and a comment has none.
 pub fn words_are_spelled()
-    ensures { (line : List ℕ) (words : List Token) → SpellsLine words line ↔ ((words_of line ≡ words) × AreGood words) }
+    ensures { (line : List ℕ) (words : List Token) → SpellsLine words line ↔ (words_of line ≡ words) }
 {}
 
 /// The number of a word is the one that it spells in decimal digits, leading zeros or not, if that is within the range.

@@ -3,7 +3,7 @@ ghost use Rattle.std.specs.Prelude.{◌≡◌, ◌↔◌, ◌≤◌, IfOk, List,
 ghost use Rattle.std.specs.Option.{option_map};
 ghost use Rattle.mv_scan.specs.declared.token.Token.{Token};
 ghost use Rattle.mv_scan.specs.Words.{drop_spaces, first_word, word_len, words_of, words_within};
-ghost use Rattle.mv_scan.specs.WordGrammar.{AreGood, SpellsLine, SpellsWords};
+ghost use Rattle.mv_scan.specs.WordGrammar.{SpellsLine, SpellsWords};
 
 use crate::scan::scan_text;
 use crate::token::Token;
@@ -74,11 +74,11 @@ fn find_words(alloc: Global, line: &[u8]) -> Result<Vec<Token>, OutOfMemory>
     Ok(words)
 }
 
-/// The words of bytes among which no comment is looked for. Words spell the bytes exactly where they are the ones found and
-/// none of these is a broken text, or a text that bytes follow without a space. The error is want of memory.
+/// The words of bytes among which no comment is looked for: those that spell the bytes, and no others do. The error is want
+/// of memory.
 pub fn split_words(alloc: Global, line: &[u8]) -> Result<Vec<Token>, OutOfMemory>
     ensures words { IfOk result (λ found. found.items ≡ words_within (length line.now) line.now) }
-    ensures spelled { IfOk result (λ found. (words : List Token) → SpellsWords words line.now ↔ ((found.items ≡ words) × AreGood words)) }
+    ensures spelled { IfOk result (λ found. (words : List Token) → SpellsWords words line.now ↔ (found.items ≡ words)) }
 {
     find_words(alloc, line)
 }
@@ -92,11 +92,11 @@ fn find_line(alloc: Global, line: &[u8]) -> Result<Vec<Token>, OutOfMemory>
     }
 }
 
-/// The words of a line; none where its first byte behind spaces is `;`. Words spell the line exactly where they are the ones
-/// found and none of these is a broken text, or a text that bytes follow without a space. The error is want of memory.
+/// The words of a line; none where its first byte behind spaces is `;`. They spell the line, and no others do. The error is
+/// want of memory.
 pub fn split_line(alloc: Global, line: &[u8]) -> Result<Vec<Token>, OutOfMemory>
     ensures words { IfOk result (λ found. found.items ≡ words_of line.now) }
-    ensures spelled { IfOk result (λ found. (words : List Token) → SpellsLine words line.now ↔ ((found.items ≡ words) × AreGood words)) }
+    ensures spelled { IfOk result (λ found. (words : List Token) → SpellsLine words line.now ↔ (found.items ≡ words)) }
 {
     find_line(alloc, line)
 }
