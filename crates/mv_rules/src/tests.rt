@@ -37,10 +37,7 @@ Number 3: rule~clock 0 -> 18446744073709551616~
 Number 3: rule~read 4 -> @x:0~
 Number 3: rule~read 4 -> @x:65537~
 Quote 3: rule~read 4 -> \"ab~
-Quote 3: rule~read 4 -> \"a\\q\"~
-Quote 3: rule~read 4 -> \"\\x4\"~
-Quote 3: rule~read 4 -> \"\\xg0\"~
-Quote 3: rule~read 4 -> \"a\tb\"~
+Quote 3: rule~write $f \"\\x4\" -> all~
 Name 3: rule~read $ -> @x~
 Name 3: rule~read $aB -> @x~
 Name 3: rule~read $abcdefghijklmnopq -> @x~
@@ -240,31 +237,4 @@ fn sizes(rule: &Rule) -> (u32, usize, usize, usize) {
         rule.guards.slice().len(),
         rule.right.slice().len(),
     )
-}
-
-#[test]
-fn escapes_are_read(rt: HostRuntime) -> Result<(), Fail> {
-    let alloc = rt.alloc();
-    let text = "mvrules 1\nrule\nread 4 -> \"OK\\n\\r\\t\\\"\\\\\\x41\\xfF~\"\nto\nend\n";
-    let rules = match parse_rules(alloc, text.as_bytes()) {
-        Ok(rules) => rules,
-        Err(_) => Rules::none(alloc),
-    };
-    assert_eq!(rt; rules.count(), 1);
-    let bytes = match rules.slice()[0].left.slice() {
-        [
-            Pattern::Read {
-                fd: FdTerm::Number(4),
-                bytes,
-            },
-        ] => bytes.slice(),
-        _ => &[],
-    };
-    let written = match bytes {
-        [Part::Text(text)] => text.slice(),
-        _ => &[],
-    };
-    assert_eq!(rt; written, b"OK\n\r\t\"\\A\xff~".as_slice());
-    assert_eq!(rt; Rules::none(alloc).count(), 0);
-    Ok(())
 }

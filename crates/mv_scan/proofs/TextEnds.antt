@@ -6,7 +6,7 @@ use Rattle.std.specs.Prelude.{nat_le}
 use Rattle.mv_scan.specs.declared.scan.Place.{Place}
 use Rattle.mv_scan.specs.declared.scan.Place.TheVariants.{Among, Backslash, High, Low}
 use Rattle.mv_scan.specs.declared.scan.Effect.{Effect}
-use Rattle.mv_scan.specs.declared.scan.Effect.TheVariants.{Closes, Leads, Gives, Spoils, Breaks}
+use Rattle.mv_scan.specs.declared.scan.Effect.TheVariants.{Gives, Spoils}
 use Rattle.mv_scan.specs.Words.{hex_value, escaped, given_by, no_digit, high_digit, low_digit, Scanned, with_byte, step_of, scan_on, scan}
 use Rattle.mv_scan.specs.WordGrammar.{IsInner, StaysOpen}
 use Rattle.mv_scan.proofs.GrammarFinds.{by_test}

@@ -1,5 +1,5 @@
 -- The text that is found is the one that its bytes spell.
-use Rattle.std.proofs.Common.{◌≡◌, inl, inr, ℕ, ◌+◌, ◌*◌, ◌&&◌, ◌==◌, Bool, true, List, [], ◌∷◌, ◌++◌, refl, ap, sym, subst, Option, Some, None, leb-true, eqb-true}
+use Rattle.std.proofs.Common.{◌≡◌, inl, inr, ℕ, ◌+◌, ◌*◌, ◌&&◌, ◌==◌, true, List, [], ◌∷◌, ◌++◌, refl, ap, sym, subst, Option, Some, None, leb-true, eqb-true}
 use Rattle.std.proofs.lemmas.Bool.{eqb-false}
 use Rattle.std.specs.Option.{option_map}
 use Rattle.std.specs.Prelude.{nat_le}
@@ -100,11 +100,11 @@ on_low high b bytes ih None e = on_none (Low high) b bytes (λ next. scan next b
 on_low high b bytes ih (Some low) e =
     given_is (Low high) b bytes (16 * high + low) (ih Among)
     (λ others inner more first f. (
-    92 ∷ 120 ∷ first ∷ b ∷ [],
-    inner,
-    refl,
-    inr (inr (record { first = first; second = b; high = high; low = low; written = refl; first_value = f; second_value = e; value = refl })),
-    more,
+      92 ∷ 120 ∷ first ∷ b ∷ [],
+      inner,
+      refl,
+      inr (inr (record { first = first; second = b; high = high; low = low; written = refl; first_value = f; second_value = e; value = refl })),
+      more,
     ))
 
 on_byte : (place : Place) (b : ℕ) (bytes : List ℕ) (ih : (place : Place) → ScanIs place bytes (scan place bytes)) → ScanIs place (b ∷ bytes) (scan place (b ∷ bytes))

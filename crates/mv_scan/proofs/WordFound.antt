@@ -1,5 +1,5 @@
 -- The words that are found spell the line.
-use Rattle.std.proofs.Common.{◌≡◌, ◌⊎◌, inl, inr, ℕ, zero, suc, ◌+◌, ◌≤◌, ◌&&◌, ◌||◌, ◌==◌, Bool, true, false, List, [], ◌∷◌, ◌++◌, length, take, drop, refl, ap, sym, ◌∙◌, subst, arith, append_assoc, append-nil, length-append, Option, Some, None, eqb-true}
+use Rattle.std.proofs.Common.{◌≡◌, inl, inr, ℕ, zero, suc, ◌+◌, ◌≤◌, ◌&&◌, ◌||◌, ◌==◌, Bool, true, false, List, [], ◌∷◌, ◌++◌, length, take, drop, refl, ap, sym, ◌∙◌, subst, arith, append_assoc, append-nil, length-append, Option, Some, None, eqb-true}
 use Rattle.std.proofs.lemmas.Bool.{eqb-false}
 use Rattle.std.proofs.lemmas.List.{take-append-drop}
 use Rattle.std.specs.List.{list_all, list_any}
@@ -88,8 +88,8 @@ glued_is bytes o (b ∷ rest) (inl h) n =
     record {
       word = 34 ∷ (h.0 ++ (34 ∷ b ∷ take (word_len rest) rest));
       split = ap (λ (k : List ℕ). 34 ∷ k)
-      (h.1 ∙ ap (λ (k : List ℕ). h.0 ++ (34 ∷ b ∷ k)) (sym (take-append-drop (word_len rest) rest))
-      ∙ sym (append_assoc h.0 (34 ∷ b ∷ take (word_len rest) rest) (drop (word_len rest) rest)));
+          (h.1 ∙ ap (λ (k : List ℕ). h.0 ++ (34 ∷ b ∷ k)) (sym (take-append-drop (word_len rest) rest))
+          ∙ sym (append_assoc h.0 (34 ∷ b ∷ take (word_len rest) rest) (drop (word_len rest) rest)));
       spelled = record { inner = h.0; first = b; others = take (word_len rest) rest; written = refl; inside = h.2; no_space = free; ends = ends };
     })
     n (word_free (b ∷ rest)) (word_ends (b ∷ rest))

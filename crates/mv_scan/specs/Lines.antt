@@ -1,4 +1,4 @@
--- The lines of a text.
+-- The lines of a text (docs/FORMATS.md, "Words of a text").
 use Rattle.std.specs.Prelude.{◌≡◌, ◌⊎◌, ℕ, suc, ◌==◌, false, List, [], ◌∷◌, ◌++◌, if◌then◌else◌}
 use Rattle.std.specs.List.{list_any}
 

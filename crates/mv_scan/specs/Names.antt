@@ -1,4 +1,4 @@
--- Names.
+-- Names (docs/FORMATS.md, "Words of a text").
 use Rattle.std.specs.Prelude.{ℕ, ◌==◌, nat_le, Bool, false, ◌&&◌, ◌||◌, List, [], ◌∷◌, length}
 use Rattle.std.specs.List.{list_all}
 use Rattle.mv_scan.specs.Numbers.{is_digit}

@@ -1,4 +1,4 @@
--- Numbers, in decimal digits.
+-- Numbers, in decimal digits (docs/FORMATS.md, "Words of a text").
 use Rattle.std.specs.Prelude.{ℕ, ◌+◌, ◌-◌, ◌*◌, nat_le, Bool, ◌&&◌, List, [], ◌∷◌, Option, Some, None, if◌then◌else◌}
 use Rattle.std.specs.List.{list_all}
 use Rattle.mv_scan.specs.declared.token.Token.{Token}

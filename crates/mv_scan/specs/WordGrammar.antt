@@ -1,4 +1,4 @@
--- The words of a line, and the bytes that spell them (docs/FORMATS.md, "Rewrite rules"). Nothing here reads a line.
+-- The words of a line, and the bytes that spell them (docs/FORMATS.md, "Words of a text"). Nothing here reads a line.
 use Rattle.std.specs.Prelude.{◌≡◌, ◌≢◌, ◌⊎◌, ◌≤◌, ◌+◌, ◌*◌, ◌==◌, ℕ, true, false, List, [], ◌∷◌, ◌++◌, Some, None}
 use Rattle.std.specs.List.{list_all, list_any}
 use Rattle.mv_scan.specs.declared.token.Token.{Token}

@@ -1,4 +1,4 @@
--- The words of a line of rules.
+-- The words of a line, read from its front (docs/FORMATS.md, "Words of a text"). That they are those of `WordGrammar` is a law.
 use Rattle.std.specs.Prelude.{◌<◌, ℕ, zero, suc, ◌+◌, ◌-◌, ◌*◌, ◌==◌, nat_le, Bool, true, false, ◌&&◌, List, [], ◌∷◌, length, take, drop, Option, Some, None, if◌then◌else◌}
 use Rattle.std.specs.Option.{option_map}
 use Rattle.std.specs.Str.{bytes_eq}

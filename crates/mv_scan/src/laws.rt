@@ -7,7 +7,7 @@ ghost use Rattle.mv_scan.specs.Numbers.{number_of};
 ghost use Rattle.mv_scan.specs.Words.{is_word, words_of};
 ghost use Rattle.mv_scan.specs.WordGrammar.{SpellsLine, SpellsNumber};
 
-/// The words of a line are exactly those that spell it (docs/FORMATS.md, "Words of a line"), with spaces in front, behind and
+/// The words of a line are exactly those that spell it (docs/FORMATS.md, "Words of a text"), with spaces in front, behind and
 /// between; each is a plain word, a text in quotes with its escapes, a broken text, or a text that bytes follow without a
 /// space. A line of spaces alone has none, and a comment has none.
 pub fn words_are_spelled()

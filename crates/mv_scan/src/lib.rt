@@ -1,4 +1,5 @@
-//! What texts are made of: lines, words, texts in quotes with their escapes, names, and numbers in decimal digits.
+//! What texts are made of: lines, words, texts in quotes with their escapes, names, and numbers in decimal
+//! digits (docs/FORMATS.md, "Words of a text").
 #![tactic(auto)]
 
 mod found;
@@ -7,6 +8,8 @@ mod lines;
 mod names;
 mod number;
 mod scan;
+#[cfg(test)]
+mod tests;
 mod token;
 mod tokens;
 mod words;

@@ -1,4 +1,4 @@
-//! Names.
+//! Names (docs/FORMATS.md, "Words of a text").
 ghost use Rattle.std.specs.Prelude.{◌≡◌};
 ghost use Rattle.std.specs.List.{list_all};
 ghost use Rattle.mv_scan.specs.Names.{is_name, is_name_byte};

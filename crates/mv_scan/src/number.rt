@@ -19,7 +19,8 @@ fn are_digits(bytes: &[u8]) -> bool
     true
 }
 
-/// A number in decimal digits, from `low` to `high`.
+/// A number in decimal digits, from `low` to `high`; zeros may lead. It is `Other` where the bytes aren't digits alone, at least
+/// one, and `OutOfRange` where they are digits of another number, however large.
 pub fn read_number(bytes: &[u8], low: u64, high: u64) -> Found<u64>
     ensures found { result ≡ in_range low high (decimal bytes.now) }
     ensures most { IsAtMost high result }
@@ -66,7 +67,7 @@ fn next_value(value: u64, byte: u8) -> Option<u64>
         .checked_add(u64::from(byte.saturating_sub(48)))
 }
 
-/// A word that is a number from `low` to `high`.
+/// A plain word that is a number from `low` to `high`, as `read_number` finds it; a text in quotes is `Other`.
 pub fn number_word(token: &Token, low: u32, high: u32) -> Found<u32>
     ensures found { result ≡ number_of low high token.now }
     ensures most { IsAtMost high result }
@@ -82,7 +83,7 @@ pub fn number_word(token: &Token, low: u32, high: u32) -> Found<u32>
     }
 }
 
-/// A word that is a number from `low` to `high`, of 16 bits.
+/// A number as `number_word` finds it, of 16 bits.
 pub fn short_word(token: &Token, low: u16, high: u16) -> Found<u16>
     ensures found { result ≡ number_of low high token.now }
     ensures most { IsAtMost high result }

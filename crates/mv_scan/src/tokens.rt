@@ -5,7 +5,7 @@ ghost use Rattle.mv_scan.specs.Words.{is_bad_text, is_lone_word, is_word};
 
 use crate::token::Token;
 
-/// Whether the word is this one.
+/// Whether the word is a plain one of these bytes.
 pub fn is_word(word: &[u8], token: &Token) -> bool
     ensures { result ≡ is_word word.now token.now }
 {
@@ -26,7 +26,7 @@ pub fn is_lone_word(word: &[u8], tokens: &[Token]) -> bool
     }
 }
 
-/// A text that doesn't end or has another byte or escape.
+/// Whether a word is a text that doesn't end or has another byte or escape.
 pub fn has_bad_text(tokens: &[Token]) -> bool
     ensures { result ≡ list_any is_bad_text tokens.now }
 {
