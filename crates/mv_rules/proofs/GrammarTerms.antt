@@ -1,5 +1,5 @@
 -- The terms and parts that are found are those that their words spell.
-use Rattle.std.proofs.Common.{◌≡◌, ℕ, ◌+◌, ◌<◌, ◌≤◌, ◌&&◌, Bool, true, false, List, [], ◌∷◌, ◌++◌, length, refl, ap, ◌∙◌, subst, take, drop, arith, Some, None}
+use Rattle.std.proofs.Common.{◌≡◌, ℕ, ◌+◌, ◌≤◌, ◌&&◌, Bool, true, false, List, [], ◌∷◌, ◌++◌, length, refl, ap, ◌∙◌, subst, take, drop, arith, Some, None}
 use Rattle.std.proofs.lemmas.Bool.{eqb-true}
 use Rattle.std.proofs.lemmas.Bool.Decides.{nat_tests}
 use Rattle.std.proofs.Math.Seq.{take-append_seam, drop-append-add}
@@ -19,12 +19,12 @@ use Rattle.mv_scan.specs.declared.found.Found.{Found}
 use Rattle.mv_scan.specs.declared.found.Found.TheVariants.{Other, OutOfRange, Is}
 use Rattle.mv_scan.specs.Found.{found_map}
 use Rattle.mv_rules.specs.Forms.{fd_of, fd_in_word, time_of, time_in_word, sized_as, named_at, part_in_word, part_of}
-use Rattle.mv_scan.specs.Numbers.{is_digit, decimal, decimal_from, in_range, number_of}
+use Rattle.mv_scan.specs.Numbers.{decimal, in_range}
 use Rattle.mv_rules.specs.Names.{fd_name_passes, time_name_passes, part_name_passes, is_sized}
 use Rattle.mv_scan.specs.Names.{is_name, is_name_byte, is_lower}
 use Rattle.mv_scan.specs.Words.{is_bad_text}
 use Rattle.mv_rules.specs.ItemGrammar.{Side, Left, Right, SpellsFd, SpellsTime, SpellsSized, SpellsPart}
-use Rattle.mv_scan.specs.WordGrammar.{SpellsNumber, SpellsName}
+use Rattle.mv_scan.specs.WordGrammar.{SpellsName}
 use Rattle.mv_scan.proofs.GrammarFinds.{both_true, by_if, by_map, range_is, range_of, position_is, position_at, position_none}
 use Rattle.mv_scan.proofs.NumberLaws.{number_is, first_digit, below_digits}
 

@@ -11,12 +11,12 @@ use Rattle.mv_rules.specs.declared.rule.Part.TheVariants.{Text, Sized, Named, Le
 use Rattle.mv_rules.specs.declared.reading.Version.{Version}
 use Rattle.mv_rules.specs.declared.reading.Version.TheVariants.{First, Second}
 use Rattle.mv_scan.specs.declared.token.Token.{Token}
-use Rattle.mv_scan.specs.declared.token.Token.TheVariants.{Plain, Quoted, Glued}
+use Rattle.mv_scan.specs.declared.token.Token.TheVariants.{Plain}
 use Rattle.mv_scan.specs.declared.found.Found.TheVariants.{Is}
 use Rattle.mv_scan.specs.Found.{pair, is_other}
 use Rattle.mv_rules.specs.Forms.{is_errno, errno_in, part_of, all_parts, parts_of}
 use Rattle.mv_scan.specs.Numbers.{decimal}
-use Rattle.mv_scan.specs.Words.{is_word, is_lone_word, is_bad_text}
+use Rattle.mv_scan.specs.Words.{is_word, is_bad_text}
 use Rattle.mv_rules.specs.Names.{part_name_passes, is_sized}
 use Rattle.mv_scan.specs.Names.{is_name}
 use Rattle.mv_rules.specs.RulesText.{part_count}

@@ -1,13 +1,11 @@
 -- Lines, one after another.
-use Rattle.std.proofs.Common.{◌≡◌, ℕ, zero, suc, ◌+◌, ◌==◌, ◌<◌, Bool, true, false, List, [], ◌∷◌, length, take, drop, refl, ap, ◌∙◌, sym, arith}
-use Rattle.std.proofs.lemmas.Grind.{common_steps}
-use Rattle.std.specs.Prelude.{if◌then◌else◌, Result, Ok, Err}
+use Rattle.std.proofs.Common.{◌≡◌, ℕ, ◌+◌, List, ◌∷◌, ap, ◌∙◌, sym}
+use Rattle.std.specs.Prelude.{Result, Ok, Err}
 use Rattle.mv_rules.specs.declared.rule.Rule.{Rule}
 use Rattle.mv_rules.specs.declared.fault.RuleFault.{RuleFault}
 use Rattle.mv_rules.specs.declared.reading.Version.{Version}
 use Rattle.mv_rules.specs.declared.reading.Reading.{Reading}
 use Rattle.mv_rules.specs.RulesText.{and_then, read_line, read_lines}
-use Rattle.mv_scan.specs.Lines.{lines_of, onto_line, line_len}
 
 -- one line is read, and the rest
 pub read_step : (version : Version) (reading next : Reading) (at : ℕ) (line : List ℕ) (lines more : List (List ℕ)) (whole : Result (List Rule) RuleFault)

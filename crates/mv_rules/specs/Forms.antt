@@ -1,6 +1,6 @@
 -- The items and guards of rules as they are written (docs/FORMATS.md, "Rewrite rules").
-use Rattle.std.specs.Prelude.{ℕ, ◌+◌, ◌-◌, ◌*◌, ◌==◌, nat_le, Bool, false, ◌&&◌, List, [], ◌∷◌, take, drop, Option, Some, None, if◌then◌else◌, unwrap_or, codes}
-use Rattle.std.specs.List.{list_all, position}
+use Rattle.std.specs.Prelude.{ℕ, ◌+◌, ◌==◌, Bool, false, ◌&&◌, List, [], ◌∷◌, take, drop, Option, Some, None, if◌then◌else◌, unwrap_or, codes}
+use Rattle.std.specs.List.{position}
 use Rattle.std.specs.Str.{bytes_eq}
 use Rattle.mv_rules.specs.declared.rule.FdTerm.{FdTerm}
 use Rattle.mv_rules.specs.declared.rule.FdTerm.TheVariants as fds
