@@ -20,3 +20,4 @@ pub mod GuardLaws
 pub mod WordGiven
 pub mod WordFound
 pub mod WordLaws
+pub mod ShapeLaws

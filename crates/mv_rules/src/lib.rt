@@ -22,7 +22,7 @@ mod verb;
 mod words;
 
 pub use fault::{RuleFault, RuleKind};
-pub use laws::words_are_spelled;
+pub use laws::{spelled_rules_are_shaped, words_are_spelled};
 pub use lists::{Guards, Parts, Patterns, Rules};
 pub use rule::{Comparison, FdTerm, Guard, Part, Pattern, Rule, TimeTerm};
 pub use text::parse_rules;
