@@ -10,7 +10,7 @@ use Rattle.mv_calls.specs.declared.calls.Reply.{Reply}
 use Rattle.mv_calls.specs.declared.calls.Reply.TheVariants as reply
 use Rattle.mv_syntax.specs.declared.fault.BornFault.{BornFault}
 use Rattle.mv_rewrite.specs.Rewriting.{turned}
-use Rattle.mv_rewrite.specs.KeptLaws.{turned_keeps_reads, turned_keeps_accepts}
+use Rattle.mv_rewrite.proofs.KeptLaws.{turned_keeps_reads, turned_keeps_accepts}
 use Rattle.mv_rulecheck.specs.Atoms.{AreKept}
 use Rattle.mv_version.specs.Behaviour.{Behaviour}
 use Rattle.mv_version.specs.declared.event.Event.{Event}

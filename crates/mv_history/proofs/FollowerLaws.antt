@@ -7,7 +7,7 @@ use Rattle.mv_syntax.specs.declared.fault.BornFault.{BornFault}
 use Rattle.mv_rules.specs.declared.rule.Rule.{Rule}
 use Rattle.mv_rules.specs.Shape.{AreShaped}
 use Rattle.mv_rewrite.specs.Deciding.{BeginsWith}
-use Rattle.mv_rewrite.specs.RewritingLaws.{sure_front, turned_front}
+use Rattle.mv_rewrite.proofs.RewritingLaws.{sure_front, turned_front}
 use Rattle.mv_version.specs.Behaviour.{Behaviour}
 use Rattle.mv_version.specs.declared.event.Event.{Event}
 use Rattle.mv_history.specs.Followers.{Base, Forked, Standing, Following, file_by, hears_by, rewritten_by, begin, replayed, replayed_from, FollowerShows}

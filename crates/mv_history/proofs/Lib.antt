@@ -1,4 +1,5 @@
 pub mod ByteLaws
+pub mod EarlyTexts
 pub mod ExtendsLaws
 pub mod FollowerLaws
 pub mod HandLaws

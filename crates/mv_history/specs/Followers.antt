@@ -1,10 +1,11 @@
 -- A follower: what it began with, what it heard since, and where that leads it.
-use Rattle.std.specs.Prelude.{◌≡◌, ℕ, Bool, true, false, List, [], ◌∷◌, ◌++◌, Result, Ok, Err}
+use Rattle.std.specs.Prelude.{◌≡◌, ℕ, Bool, true, not, List, [], ◌∷◌, ◌++◌, Result, Ok, Err}
 use Rattle.mv_calls.specs.declared.calls.Call.{Call}
 use Rattle.mv_calls.specs.declared.calls.Reply.{Reply}
 use Rattle.mv_syntax.specs.declared.fault.BornFault.{BornFault}
 use Rattle.mv_rules.specs.declared.rule.Rule.{Rule}
-use Rattle.mv_rewrite.specs.Rewriting.{sure, turned}
+use Rattle.mv_rewrite.specs.Deciding.{groups, joined}
+use Rattle.mv_rewrite.specs.Rewriting.{decide}
 use Rattle.mv_version.specs.Behaviour.{Behaviour}
 use Rattle.mv_version.specs.declared.event.Event.{Event}
 use Rattle.mv_version.specs.declared.event.Event.TheVariants as event
@@ -41,8 +42,7 @@ hears_by f = rules_of (file_by f.base f.files)
 
 -- what it heard, as the rules rewrite it: the whole once a hand-over is asked, and before that what is sure
 abbrev pub rewritten_by : Bool → List Rule → List (Call × Reply) → List (Call × Reply)
-rewritten_by true rules items = turned rules items
-rewritten_by false rules items = sure rules items
+rewritten_by handed rules items = joined (groups (decide (not handed) rules) items)
 
 abbrev pub is_forked : {V : Type 0} → Base V → Type 0
 is_forked (Forked s) = Unit {0}

@@ -1,6 +1,6 @@
 -- What an entry weighs: the bytes of writes, of reads, of random bytes, of order texts and of reply lines, and 32 for
 -- each subscription and each event of a poll. A call in a cause weighs as any other.
-use Rattle.std.specs.Prelude.{◌≡◌, ℕ, ◌+◌, ◌*◌, length}
+use Rattle.std.specs.Prelude.{ℕ, ◌+◌, ◌*◌, length}
 use Rattle.mv_calls.specs.declared.calls.Call.{Call}
 use Rattle.mv_calls.specs.declared.calls.Call.TheVariants as call
 use Rattle.mv_calls.specs.declared.calls.Reply.{Reply}
@@ -43,8 +43,3 @@ payload_of (entry.Call item) = call_payload item.0 + reply_payload item.1
 payload_of entry.Point = 0
 payload_of (entry.Order text answer) = length text + length (reply_text answer)
 payload_of (entry.Mark m) = mark_payload m
-
--- the line that answers an order has this length
-abbrev pub HasLine : Entry → ℕ → Type 0
-HasLine (entry.Order text answer) line = line ≡ length (reply_text answer)
-HasLine e line = Unit {0}

@@ -1,12 +1,12 @@
 -- Where a follower is in its work, what a message makes of that, and what one of its steps may do.
-use Rattle.std.specs.Prelude.{◌≡◌, ℕ, zero, suc, ◌+◌, ◌⊎◌, Bool, true, false, cond, nat_eq, nat_lt, ◌&&◌, is_none, Option, Some, None, List, [], ◌∷◌, ◌++◌, length, take, Ok, Err}
+use Rattle.std.specs.Prelude.{◌≡◌, ℕ, zero, suc, ◌+◌, ◌⊎◌, Bool, true, false, cond, not, nat_eq, nat_lt, ◌&&◌, is_none, Option, Some, None, List, [], ◌∷◌, ◌++◌, length, take, Ok, Err}
 use Rattle.mv_calls.specs.declared.calls.Call.{Call}
 use Rattle.mv_calls.specs.declared.calls.Reply.{Reply}
 use Rattle.mv_feed.specs.declared.msg.Msg.{Msg}
 use Rattle.mv_feed.specs.declared.msg.Msg.TheVariants as msg
 use Rattle.mv_rules.specs.declared.rule.Rule.{Rule}
-use Rattle.mv_rewrite.specs.Deciding.{joined}
-use Rattle.mv_rewrite.specs.Rewriting.{sure_groups, turned_groups}
+use Rattle.mv_rewrite.specs.Deciding.{groups, joined}
+use Rattle.mv_rewrite.specs.Rewriting.{decide}
 use Rattle.mv_version.specs.Behaviour.{Behaviour}
 use Rattle.mv_version.specs.declared.event.Event.{Event}
 use Rattle.mv_version.specs.declared.event.Event.TheVariants as event
@@ -64,8 +64,7 @@ spot_after spot (msg.Stand s) = standing_spot spot.keeps s
 
 -- what each decision gives: those that are sure, or all once the hand-over was taken
 abbrev pub groups_by : Bool → List Rule → List (Call × Reply) → List (List (Call × Reply))
-groups_by true rules items = turned_groups rules items
-groups_by false rules items = sure_groups rules items
+groups_by handed rules items = groups (decide (not handed) rules) items
 
 abbrev pub groups_at : {V : Type 0} → Place V → List (List (Call × Reply))
 groups_at p = groups_by (is_handed p) (hears_by p.follows) p.follows.heard

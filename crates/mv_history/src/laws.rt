@@ -4,14 +4,17 @@ ghost use Rattle.mv_calls.specs.declared.calls.Call.{Call as call};
 ghost use Rattle.mv_calls.specs.declared.calls.Reply.{Reply as reply};
 ghost use Rattle.mv_calls.specs.Items.{accepted, eaten};
 ghost use Rattle.mv_feed.specs.declared.msg.Msg.{Msg as msg};
+ghost use Rattle.mv_rulecheck.specs.Atoms.{AreKept};
+ghost use Rattle.mv_rules.specs.Shape.{AreShaped};
 ghost use Rattle.mv_version.specs.declared.event.Event.{Event as event};
 ghost use Rattle.mv_history.specs.declared.log.Cause.{Cause as cause};
 ghost use Rattle.mv_history.specs.declared.log.Entry.{Entry as entry};
 ghost use Rattle.mv_history.specs.declared.updates.Update.{Update as update};
-ghost use Rattle.mv_history.specs.Followers.{Following, FollowerShows, Reaches, given_to};
+ghost use Rattle.mv_history.specs.Followers.{Following, FollowerShows, Reaches, given_to, hears_by};
 ghost use Rattle.mv_history.specs.Leads.{Chosen, OkLine, lead_entry};
 ghost use Rattle.mv_history.specs.Places.{Place, is_handed, place_of};
 ghost use Rattle.mv_history.specs.Replay.{Fails, Stands, replay};
+ghost use Rattle.mv_history.specs.Rules.{AreAccepted, IsAccepted, rules_of};
 ghost use Rattle.mv_history.specs.Shapes.{Shaped};
 ghost use Rattle.mv_history.specs.Small.{IsSmall};
 ghost use Rattle.mv_history.specs.Stretches.{KeepsFollower, KeepsLeader, MarksAre, run_of};
@@ -52,6 +55,14 @@ pub fn no_byte_lost<V: Version>()
     ensures bytes { (f : Following V) (s : V) (fd : ℕ) → Reaches V.behaviour f s → eaten (given_to V.behaviour f) fd ≡ eaten f.heard fd }
     ensures connections { (f : Following V) (s : V) → Reaches V.behaviour f s → accepted (given_to V.behaviour f) ≡ accepted f.heard }
     ensures heard { (updates : List update) (w : World V) (es : List entry) (f : Following V) → MarksAre KeepsFollower es → w.following ≡ Some f → (after_entries V.behaviour updates w es).following ≡ Some (with_more f (outside es)) }
+{}
+
+/// The rules of an accepted file are within the limits of the format and keep what is read and accepted, and a follower of an
+/// accepted update hears by such rules.
+pub fn accepted_rules_are_shaped<V: Version>()
+    ensures shaped { (text : List ℕ) → IsAccepted text → AreShaped (rules_of text) }
+    ensures kept { (text : List ℕ) → IsAccepted text → AreKept (rules_of text) }
+    ensures heard { (f : Following V) → AreAccepted f.files → AreShaped (hears_by f) }
 {}
 
 /// Over a stretch without a change of leader the leader is what its calls and points make of it.

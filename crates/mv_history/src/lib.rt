@@ -13,8 +13,8 @@ mod updates;
 
 pub use entries::Entries;
 pub use laws::{
-    counts_fit, leads_by_itself, no_byte_lost, one_world, replays_join, turns_are_legal,
-    verdicts_stay, worlds_have_a_shape,
+    accepted_rules_are_shaped, counts_fit, leads_by_itself, no_byte_lost, one_world, replays_join,
+    turns_are_legal, verdicts_stay, worlds_have_a_shape,
 };
 pub use log::{Cause, Entry, How, Log, Mark, Side, Start, Why};
 pub use status::{

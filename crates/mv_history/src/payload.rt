@@ -1,9 +1,10 @@
 //! What an entry weighs. Each number stands still at the greatest of its type.
 ghost use Rattle.std.specs.Prelude.{◌≡◌, ◌+◌, ◌-◌, ◌^◌, min, length};
-ghost use Rattle.mv_history.specs.Payload.{HasLine, call_payload as of_call, cause_payload as of_cause, event_payload as of_event, mark_payload as of_mark, payload_of, reply_payload as of_reply};
+ghost use Rattle.mv_history.specs.Payload.{call_payload as of_call, cause_payload as of_cause, event_payload as of_event, mark_payload as of_mark, payload_of, reply_payload as of_reply};
 
 use crate::log::{Cause, Entry, Mark};
 use mv_calls::{Call, Reply};
+use mv_orders::reply_length;
 use mv_version::Event;
 
 /// The payload of a subscription or an event.
@@ -65,19 +66,19 @@ fn mark_payload(mark: &Mark) -> u64
 
 impl Entry {
     /// What this entry weighs in a log: the bytes of writes, of reads, of random bytes, of order texts and of reply lines,
-    /// and 32 for each subscription and each event of a poll. `line` is the length of the line that answers an order, and
-    /// anything for another entry.
+    /// and 32 for each subscription and each event of a poll.
     #[tactic(auto, using(crate::proofs::Weights::adds_once))]
-    pub fn payload(&self, line: usize) -> u64
-        requires line { HasLine self.now line }
-        ensures payload { result ≡ min (payload_of self.now) (2 ^ 64 - 1) }
+    pub fn payload(&self) -> u64
+        ensures { result ≡ min (payload_of self.now) (2 ^ 64 - 1) }
     {
         match self {
             Entry::Call { item } => call_payload(&item.call).saturating_add(reply_payload(
                 &item.reply,
             )),
             Entry::Point => 0,
-            Entry::Order { text, .. } => (text.slice().len() as u64).saturating_add(line as u64),
+            Entry::Order { text, reply } => {
+                (text.slice().len() as u64).saturating_add(reply_length(reply) as u64)
+            }
             Entry::Mark(mark) => mark_payload(mark),
         }
     }

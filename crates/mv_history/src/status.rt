@@ -1,5 +1,6 @@
 //! What of a run no guest knows: the stage, the counts, what is wanted and asked.
-ghost use Rattle.std.specs.Prelude.{◌≡◌, ◌<◌, ◌^◌, ◌+◌, ◌-◌, min};
+ghost use Rattle.std.specs.Prelude.{◌≡◌, ◌<◌, ◌^◌, ◌+◌, ◌-◌, IfSome, min};
+ghost use Rattle.mv_orders.specs.Reply.{IsText};
 ghost use Rattle.mv_history.specs.Payload.{payload_of};
 ghost use Rattle.mv_history.specs.Statuses.{answered, changed, early_reply, first_status, is_alone as alone_stage, is_within, kind_of, marked, only_in as only, is_old_leads, is_new_leads, point_leads, status_after, update_refusal, urgent_of};
 
@@ -158,9 +159,12 @@ impl Status {
         }
     }
 
-    /// The answer to an order, where it needs no file. None is answered for an update that goes on to its files.
+    /// The answer to an order, where it needs no file. None is answered for an update that goes on to its files. Such an answer
+    /// has no text of the line, so it can be said.
+    #[tactic(auto, using(crate::proofs::EarlyTexts::given_text))]
     pub fn early_reply(&self, order: &Order) -> Option<OrderReply>
         ensures reply { result ≡ early_reply self.now order.now }
+        ensures text { IfSome result (λ reply. IsText reply) }
     {
         match order {
             Order::Update { .. } => self.update_refusal(),

@@ -6,7 +6,7 @@ ghost use Rattle.mv_orders.specs.declared.order.Order.{Order};
 ghost use Rattle.mv_orders.specs.declared.order.OrderFault.{OrderFault};
 ghost use Rattle.mv_calls.specs.Or.{IfFault};
 ghost use Rattle.mv_orders.specs.Answers.{Answers};
-ghost use Rattle.mv_orders.specs.Order.{Reads, ReadsWords, order_words};
+ghost use Rattle.mv_orders.specs.Order.{HasTextPaths, Reads, ReadsWords, order_words};
 
 use mv_calls::{Bytes, Or, OutOfMemory};
 use std::alloc::Global;
@@ -50,10 +50,11 @@ pub enum OrderFault {
 }
 
 /// The order that a line gives, which comes without its line end. Of the reasons why it gives none, the
-/// first in the order of OrderFault is answered.
+/// first in the order of OrderFault is answered. The paths of an order are UTF-8.
 pub fn read_order(alloc: Global, line: &[u8]) -> Result<Order, Or<OrderFault>>
     ensures order { IfOk result (λ order. Reads line.now (Ok order)) }
     ensures refused { IfFault result (λ fault. Reads line.now (Err fault)) }
+    ensures paths { IfOk result (λ order. HasTextPaths order) }
 {
     if line.len() > LINE_LIMIT {
         return Err(Or::Fault(OrderFault::Long));

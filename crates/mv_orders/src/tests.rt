@@ -7,11 +7,12 @@ use mv_calls::{Bytes, Or};
 use std::alloc::Global;
 use std::test::*;
 
-/// The reply is written as this line.
+/// The reply is written as this line, whose length is told.
 fn is_line(alloc: Global, reply: OrderReply, line: &[u8]) -> Result<bool, Fail>
     requires { IsText reply }
 {
-    Ok(reply_line(alloc, &reply)?.slice() == line)
+    let made = reply_line(alloc, &reply)?;
+    Ok(made.slice() == line && reply_length(&reply) == line.len())
 }
 
 #[test]

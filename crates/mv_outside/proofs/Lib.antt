@@ -1,2 +1,3 @@
 pub mod ConsoleLaws
 pub mod FilesLaws
+pub mod SinkLaws

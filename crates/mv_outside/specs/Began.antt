@@ -12,8 +12,7 @@ pub record Began : Type 0 where
   pub coming : Option (List (Option (List ℕ)))
   pub said : Option (List ℕ)
   pub files : Option FileMap
-  -- how often each had failed
+  -- how often each of these had failed
   pub kernel_faults : ℕ
   pub console_faults : ℕ
   pub files_faults : ℕ
-  pub sink_faults : ℕ

@@ -1,5 +1,5 @@
 -- A sink in memory: what stands in it, and what a call leaves.
-use Rattle.std.specs.Prelude.{ℕ, ◌/◌, Bool, List, ◌++◌, take, length, Result, Ok, Err}
+use Rattle.std.specs.Prelude.{◌≡◌, ◌⊎◌, ℕ, ◌/◌, Bool, List, ◌++◌, take, length, Result, Ok, Err}
 use Rattle.mv_calls.specs.declared.fault.Or.{Or}
 use Rattle.mv_calls.specs.declared.fault.Or.TheVariants.{Fault, OutOfMemory}
 use Rattle.mv_outside.specs.Counts.{one_more, is_named}
@@ -19,8 +19,13 @@ pub record SinkState : Type 0 where
 abbrev pub write_fails : SinkState → Bool
 write_fails s = is_named s.fail s.calls
 
--- what a call leaves: the piece, its first half where it fails, nothing of it where memory was wanted
-abbrev pub after_write : SinkState → List ℕ → Result Unit (Or Failed) → SinkState
-after_write s piece (Ok done) = record s { calls = one_more s.calls; written = s.written ++ piece }
-after_write s piece (Err (Fault failed)) = record s { calls = one_more s.calls; written = s.written ++ take (length piece / 2) piece; faults = one_more s.faults }
-after_write s piece (Err OutOfMemory) = record s { calls = one_more s.calls }
+-- what a failed call leaves, where these bytes stand in the sink then
+abbrev pub failed_with : SinkState → List ℕ → SinkState
+failed_with s written = record s { calls = one_more s.calls; written = written; faults = one_more s.faults }
+
+-- What a call leaves: the piece; where it fails, its first half, or nothing of it where there was no memory for that; and
+-- nothing of it where memory was wanted.
+abbrev pub Leaves : SinkState → List ℕ → Result Unit (Or Failed) → SinkState → Type 0
+Leaves s piece (Ok done) now = now ≡ record s { calls = one_more s.calls; written = s.written ++ piece }
+Leaves s piece (Err (Fault failed)) now = (now ≡ failed_with s (s.written ++ take (length piece / 2) piece)) ⊎ (now ≡ failed_with s s.written)
+Leaves s piece (Err OutOfMemory) now = now ≡ record s { calls = one_more s.calls }

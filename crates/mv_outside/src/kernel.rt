@@ -22,11 +22,11 @@ pub trait Kernel: Drop {
     /// Whether the memory for doing this call is there.
     ghost ready_for: { Self → Call → Type 0 };
 
-    /// Makes the memory that doing the call takes. The call isn't done.
+    /// Makes the memory that doing the call takes. The call isn't done, and nothing fails but for want of memory.
     fn ready(&mut self, alloc: Global, call: &Call) -> Result<(), OutOfMemory>
         ensures ready { OnOk result (ready_for self.new call.now) }
         ensures done { done self.new ≡ done self.old }
-        ensures later { faults self.old ≤ faults self.new };
+        ensures faults { faults self.new ≡ faults self.old };
 
     /// Does the call, and takes no memory but `room`.
     fn perform(&mut self, call: &Call, room: Room) -> Result<Reply, Failed>

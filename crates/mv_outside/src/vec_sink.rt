@@ -1,9 +1,9 @@
 //! A sink in memory.
-ghost use Rattle.std.specs.Prelude.{◌≡◌, ◌≤◌, [], IsTrue, Some, OnOk};
+ghost use Rattle.std.specs.Prelude.{◌≡◌, ◌≤◌, ◌↔◌, ◌⊎◌, ◌++◌, ◌/◌, [], IsTrue, Some, OnOk, length, take};
 ghost use Rattle.mv_calls.specs.Or.{IsFault, WantsMemory};
 ghost use Rattle.mv_outside.specs.Told.{told_more, AddsPart};
 ghost use Rattle.mv_outside.specs.Causes.{Rose};
-ghost use Rattle.mv_outside.specs.VecSink.{SinkState, write_fails, after_write};
+ghost use Rattle.mv_outside.specs.VecSink.{SinkState, write_fails, Leaves};
 
 use crate::fault::Failed;
 use crate::sink::Sink;
@@ -49,6 +49,13 @@ impl VecSink {
     }
 }
 
+/// Adds the first half of the piece, or nothing where there is no memory for it.
+fn add_half(written: &mut Vec<u8>, piece: &[u8])
+    ensures { (written.new.items ≡ written.old.items ++ take (length piece.now / 2) piece.now) ⊎ (written.new.items ≡ written.old.items) }
+{
+    let _ = written.extend_from_slice(&piece[..piece.len() / 2]);
+}
+
 impl Sink for VecSink {
     ghost use Rattle.std.specs.Prelude.{Some};
 
@@ -56,8 +63,8 @@ impl Sink for VecSink {
 
     ghost faults = { λ s. s.faults };
 
-    /// Where it fails, the first half of the piece was added. Want of memory adds nothing, and comes
-    /// in the place of a failure too.
+    /// A call that is named fails, whether or not there is memory: the first half of the piece was added then, or
+    /// nothing where there was no memory for it. Want of memory in another call adds nothing.
     fn write_all_of(&mut self, _alloc: Global, bytes: &[u8]) -> Result<(), Or<Failed>>
         ensures ok { OnOk result (Some self.new.written ≡ told_more (Some self.old.written) bytes.now) }
         ensures part { IsFault result → AddsPart (Some self.old.written) bytes.now (Some self.new.written) }
@@ -65,21 +72,19 @@ impl Sink for VecSink {
         ensures later { self.old.faults ≤ self.new.faults }
         ensures cause { IsFault result → Rose self.old.faults self.new.faults }
         // It fails exactly at the calls that are named.
-        ensures named { IsFault result → IsTrue (write_fails self.old) }
-        ensures others { OnOk result (¬ (IsTrue (write_fails self.old))) }
-        ensures after { self.new ≡ after_write self.old bytes.now result }
+        ensures named { IsFault result ↔ IsTrue (write_fails self.old) }
+        ensures after { Leaves self.old bytes.now result self.new }
     {
         let number = self.calls;
         self.calls = number.saturating_add(1);
-        if self.written.reserve(bytes.len()).is_err() {
-            return Err(Or::OutOfMemory);
-        }
         if self.fail.contains(&number) {
             self.faults = self.faults.saturating_add(1);
-            let _ = self.written.extend_from_slice(&bytes[..bytes.len() / 2]);
+            add_half(&mut self.written, bytes);
             return Err(Or::Fault(Failed));
         }
-        let _ = self.written.extend_from_slice(bytes);
+        if self.written.extend_from_slice(bytes).is_err() {
+            return Err(Or::OutOfMemory);
+        }
         Ok(())
     }
 }

@@ -5,7 +5,7 @@ use Rattle.mv_calls.specs.declared.calls.Reply.{Reply}
 use Rattle.mv_rules.specs.declared.rule.Rule.{Rule}
 use Rattle.mv_rules.specs.Shape.{AreShaped}
 use Rattle.mv_rewrite.specs.RewriterState.{RewriterState, Stands}
-use Rattle.mv_rewrite.specs.RewriterLaws.{stands_fed, stands_finished}
+use Rattle.mv_rewrite.proofs.RewriterLaws.{stands_fed, stands_finished}
 
 abbrev pub state_of : List Rule → List (Call × Reply) → Bool → RewriterState
 state_of rules held finished = record { rules = rules; held = held; finished = finished }

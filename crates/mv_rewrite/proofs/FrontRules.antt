@@ -9,8 +9,8 @@ use Rattle.mv_rewrite.specs.declared.decide.Decision.{Decision}
 use Rattle.mv_rewrite.specs.declared.decide.Decision.TheVariants.{Pass, Replace, Wait}
 use Rattle.mv_rewrite.specs.Decisions.{IsWithin, decision_seen}
 use Rattle.mv_rewrite.specs.Deciding.{groups}
-use Rattle.mv_rewrite.specs.DecidingLaws.{groups_step}
-use Rattle.mv_rewrite.specs.RewritingLaws.{decide_takes}
+use Rattle.mv_rewrite.proofs.DecidingLaws.{groups_step}
+use Rattle.mv_rewrite.proofs.RewritingLaws.{decide_takes}
 use Rattle.mv_rewrite.specs.Rewriting.{decide}
 
 pub shaped_at : (rules : List Rule) (i : ℕ) (rule : Rule) → AreShaped rules → i < length rules → rule ≡ get_or rules i rule → IsShaped rule

@@ -2,7 +2,7 @@
 --
 -- `front r l` is what the rule r makes where its left side matches the items at the front of l, and how many of
 -- them it takes. `could r l` says that it may still match once more items stand behind l.
-use Rattle.std.specs.Prelude.{◌≡◌, ℕ, zero, suc, ◌-◌, ◌<◌, ◌≤◌, Bool, true, false, ◌&&◌, List, [], ◌∷◌, ◌++◌, length, drop, Option, Some, None}
+use Rattle.std.specs.Prelude.{◌≡◌, ℕ, zero, suc, ◌-◌, Bool, true, false, ◌&&◌, List, [], ◌∷◌, ◌++◌, drop, Option, Some, None}
 use Rattle.std.specs.List.{flat_map}
 
 -- a rule that matches decides; one that could match keeps the rules behind it from deciding
@@ -45,21 +45,6 @@ joined given = flat_map (λ group. group) given
 abbrev pub Decides : {I : Type 0} → (List I → Option (List I × ℕ)) → List I → List (List I) → List I → Type 0
 Decides decide l [] rest = l ≡ rest
 Decides decide l (group ∷ given) rest = (n : ℕ) × (decide l ≡ Some (group, n)) × Decides decide (drop n l) given rest
-
--- What is asked of a rule for the laws below.
-pub record IsSteady {R I : Type 0} (front : R → List I → Option (List I × ℕ)) (could : R → List I → Bool) (r : R) : Type 0 where
-  -- a match takes at least one item, and none that isn't there
-  pub takes : (l made : List I) (n : ℕ) → front r l ≡ Some (made, n) → (0 < n) × (n ≤ length l)
-  -- a match stays with more items behind
-  pub stays : (l m made : List I) (n : ℕ) → front r l ≡ Some (made, n) → front r (l ++ m) ≡ Some (made, n)
-  -- what can't match can't with more items behind
-  pub fails : (l m : List I) → front r l ≡ None → could r l ≡ false → (front r (l ++ m) ≡ None) × (could r (l ++ m) ≡ false)
-  -- what could match lacks an item of at most eight
-  pub short : (l : List I) → could r l ≡ true → length l < 8
-
-abbrev pub AreSteady : {R I : Type 0} → (R → List I → Option (List I × ℕ)) → (R → List I → Bool) → List R → Type 0
-AreSteady front could [] = Unit {0}
-AreSteady front could (r ∷ rules) = IsSteady front could r × AreSteady front could rules
 
 -- a list begins with another
 abbrev pub BeginsWith : {X : Type 0} → List X → List X → Type 0

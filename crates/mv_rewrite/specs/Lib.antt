@@ -1,17 +1,8 @@
+-- Read in this order; `Matches` says in the words of the rules what `Matching` finds, and `Decisions` is for private clauses.
 pub mod Bound
-pub mod Deciding
-pub mod DecidingLaws
 pub mod Matching
-pub mod MatchingLaws
-pub mod BindingLaws
-pub mod Decisions
+pub mod Matches
+pub mod Deciding
 pub mod Rewriting
 pub mod RewriterState
-pub mod RewriterLaws
-pub mod RewritingLaws
-pub mod KeptLaws
-pub mod Rows
-pub mod Matches
-pub mod MatchesLaws
-pub mod NamesLaws
-pub mod ExactLaws
+pub mod Decisions

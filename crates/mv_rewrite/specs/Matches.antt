@@ -1,6 +1,6 @@
 -- Matching in the words of the rules (docs/FORMATS.md, "Rewrite rules"): one binding of a rule's names makes each item line
 -- its item, and every guard holds under it. The cap of a read doesn't count.
-use Rattle.std.specs.Prelude.{◌≡◌, ◌⊎◌, ℕ, ◌<◌, Bool, true, false, ◌||◌, List, [], ◌∷◌, length, take}
+use Rattle.std.specs.Prelude.{◌≡◌, ◌⊎◌, ℕ, ◌<◌, Bool, true, false, ◌||◌, List, [], ◌∷◌, Some, length, take, unwrap_or}
 use Rattle.std.specs.List.{flat_map}
 use Rattle.std.specs.Str.{bytes_eq}
 use Rattle.mv_calls.specs.declared.calls.Call.{Call}
@@ -14,7 +14,7 @@ use Rattle.mv_rules.specs.declared.rule.Comparison.TheVariants.{Equal, Less, Gre
 use Rattle.mv_rules.specs.declared.rule.Guard.{Guard}
 use Rattle.mv_rules.specs.declared.rule.Rule.{Rule}
 use Rattle.mv_rewrite.specs.Bound.{Bound}
-use Rattle.mv_rewrite.specs.Matching.{bytes_named, bytes_value, made_of, trimmed}
+use Rattle.mv_rewrite.specs.Matching.{bytes_named, bytes_value, made_of, trimmed, value_of}
 
 -- ## Items
 
@@ -104,3 +104,15 @@ CouldMatch rule items = (d : Bound) × CouldMatchUnder d rule items
 abbrev pub WaitsOn : List Rule → List (Call × Reply) → Type 0
 WaitsOn [] items = ⊥
 WaitsOn (rule ∷ rules) items = CouldMatch rule items ⊎ ((MatchesFront rule items → ⊥) × WaitsOn rules items)
+
+-- ## Bindings
+
+-- each of these names has the value that is asked of it
+abbrev pub HaveValues : {V : Type 0} → List (List ℕ × V) → (List ℕ → V) → Type 0
+HaveValues {V} entries value = (name : List ℕ) (v : V) → value_of name entries ≡ Some v → value name ≡ v
+
+-- where the first binding has a value the second has the same
+pub record Agrees (b d : Bound) : Type 0 where
+  pub fds : HaveValues b.fds (λ name. unwrap_or (value_of name d.fds) 0)
+  pub times : HaveValues b.times (λ name. unwrap_or (value_of name d.times) 0)
+  pub bytes : HaveValues b.bytes (λ name. unwrap_or (value_of name d.bytes) [])

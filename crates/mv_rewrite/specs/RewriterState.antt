@@ -1,11 +1,11 @@
 -- What contracts see of a rewriter, and the lists that it stands for.
-use Rattle.std.specs.Prelude.{◌≡◌, ◌⊎◌, ℕ, Bool, true, false, not, List, [], ◌∷◌, ◌++◌, drop, Option, Some, None}
+use Rattle.std.specs.Prelude.{◌≡◌, ◌⊎◌, ℕ, Bool, false, not, List, [], ◌∷◌, ◌++◌, drop, Option, Some, None}
 use Rattle.mv_calls.specs.declared.calls.Call.{Call}
 use Rattle.mv_calls.specs.declared.calls.Reply.{Reply}
 use Rattle.mv_rules.specs.declared.rule.Rule.{Rule}
-use Rattle.mv_rewrite.specs.Deciding.{Decides, joined}
+use Rattle.mv_rewrite.specs.Deciding.{Decides, groups, joined}
 use Rattle.mv_rewrite.specs.Matches.{WaitsOn}
-use Rattle.mv_rewrite.specs.Rewriting.{decide, sure, turned}
+use Rattle.mv_rewrite.specs.Rewriting.{decide}
 
 -- its rules, the items that no decision has taken, and whether no more come
 pub record RewriterState : Type 0 where
@@ -32,13 +32,9 @@ Advances old (Some group) new = (count : ℕ) × (next_decision old ≡ Some (gr
 pub record Stands (w : RewriterState) (fed : List (Call × Reply)) (given : List (List (Call × Reply))) : Type 0 where
   pub decided : Decides (decide (not w.finished) w.rules) fed given w.held
 
-abbrev pub rewritten_by : Bool → List Rule → List (Call × Reply) → List (Call × Reply)
-rewritten_by true rules fed = turned rules fed
-rewritten_by false rules fed = sure rules fed
-
 -- the rewritten list: what is sure of it while items may come, and the whole once none do
 abbrev pub rewritten : RewriterState → List (Call × Reply) → List (Call × Reply)
-rewritten w fed = rewritten_by w.finished w.rules fed
+rewritten w fed = joined (groups (decide (not w.finished) w.rules) fed)
 
 -- What an answer of `next` says of the lists that the rewriter stands for: a group is one more of those given; and
 -- where there is none, the groups given, joined, are the rewritten list.

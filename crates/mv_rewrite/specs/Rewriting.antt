@@ -2,11 +2,11 @@
 --
 -- At the front of the items the first rule in the file's order whose left side matches there is replaced by what its
 -- right side makes; where none matches, the head passes. Each replacement or passing is one decision.
-use Rattle.std.specs.Prelude.{ℕ, Bool, true, false, List, Option}
+use Rattle.std.specs.Prelude.{◌≡◌, ℕ, ◌<◌, Bool, true, false, List, length, None, Option}
 use Rattle.mv_calls.specs.declared.calls.Call.{Call}
 use Rattle.mv_calls.specs.declared.calls.Reply.{Reply}
 use Rattle.mv_rules.specs.declared.rule.Rule.{Rule}
-use Rattle.mv_rewrite.specs.Deciding.{decision, groups, joined}
+use Rattle.mv_rewrite.specs.Deciding.{Decides, decision, groups, joined}
 use Rattle.mv_rewrite.specs.Matching.{front_of, could_match}
 
 -- The decision at the front: what is given, and how many items that takes. Where more items may come, there is none
@@ -28,3 +28,9 @@ sure rules items = joined (sure_groups rules items)
 -- the whole rewritten list
 abbrev pub turned : List Rule → List (Call × Reply) → List (Call × Reply)
 turned rules items = joined (turned_groups rules items)
+
+-- where the sure decisions stop at most seven items are left
+pub record StopsShort (rules : List Rule) (items rest : List (Call × Reply)) : Type 0 where
+  pub decided : Decides (decide true rules) items (sure_groups rules items) rest
+  pub stopped : decide true rules rest ≡ None
+  pub few : length rest < 8

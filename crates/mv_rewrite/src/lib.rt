@@ -16,6 +16,6 @@ mod tests;
 mod whole;
 
 pub use items::Items;
-pub use laws::{kept_reads_stay, matching_is_exact, sure_stays};
+pub use laws::{given_comes_first, kept_reads_stay, matching_is_exact, sure_stays};
 pub use rewriter::Rewriter;
 pub use whole::rewrite_whole;

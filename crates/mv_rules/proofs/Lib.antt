@@ -13,3 +13,4 @@ pub mod GrammarText
 pub mod GrammarReads
 pub mod GrammarLaws
 pub mod GuardLaws
+pub mod ShapeLaws

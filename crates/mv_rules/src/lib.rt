@@ -4,6 +4,7 @@
 mod fault;
 mod faults;
 mod forms;
+mod laws;
 mod line;
 mod lists;
 mod names;
@@ -16,6 +17,7 @@ mod text;
 mod verb;
 
 pub use fault::{RuleFault, RuleKind};
+pub use laws::spelled_rules_are_shaped;
 pub use lists::{Guards, Parts, Patterns, Rules};
 pub use rule::{Comparison, FdTerm, Guard, Part, Pattern, Rule, TimeTerm};
 pub use text::parse_rules;

@@ -2,6 +2,7 @@ use Rattle.std.proofs.Common.{rules, ◌≡◌, map, subst, arith, ap, ◌∙◌
 use Rattle.std.specs.Prelude.{IsUtf8}
 use Rattle.mv_orders.specs.Answers.{Answers}
 use Rattle.mv_orders.specs.Order.{Reads, ReadsWords}
+use Rattle.mv_orders.proofs.PathTexts.{answered_paths}
 use Rattle.mv_orders.proofs.Words.{cut, line_reads, answers_ok, answers_fault}
 use Rattle.mv_orders.proofs.order.read_order.Goals as goal
 
@@ -20,3 +21,6 @@ returns-clause-refused c =
     let text : IsUtf8 line = search rules in
     answers_fault (Reads line) c.order_from_words.result
     (line_reads line c.order_from_words.result (omega arith) text (subst (λ (ws : List (List ℕ)). Answers (ReadsWords ws) c.order_from_words.result) words c.order_from_words.ensures))
+
+pub returns-clause-paths : goal.returns-clause-paths
+returns-clause-paths c = answered_paths c.args.line.now c.order_from_words.result (returns-clause-order c)

@@ -1,4 +1,4 @@
-use Rattle.mv_rewrite.specs.ExactLaws.{whole_matches, matches_whole, short_could, could_short, undecided}
+use Rattle.mv_rewrite.proofs.ExactLaws.{whole_matches, matches_whole, short_could, could_short, undecided}
 use Rattle.mv_rewrite.proofs.laws.matching_is_exact.Goals as goal
 
 pub returns-clause-sound : goal.returns-clause-sound

@@ -1,5 +1,5 @@
 use Rattle.std.proofs.lemmas.Result.{IfOk-weaker}
-use Rattle.mv_rewrite.specs.RewriterLaws.{gives_next, next_few, next_none, next_bounded}
+use Rattle.mv_rewrite.proofs.RewriterLaws.{gives_next, next_few, next_none, next_bounded}
 use Rattle.mv_rewrite.proofs.rewriter.Rewriter.next.Goals as goal
 
 pub returns-clause-given : goal.returns-clause-given

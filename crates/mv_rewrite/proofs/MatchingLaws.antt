@@ -8,8 +8,7 @@ use Rattle.mv_rules.specs.declared.rule.Pattern.{Pattern}
 use Rattle.mv_rules.specs.declared.rule.Guard.{Guard}
 use Rattle.mv_rules.specs.declared.rule.Rule.{Rule}
 use Rattle.mv_rules.specs.Shape.{IsShaped, AreShaped}
-use Rattle.mv_rewrite.specs.Deciding.{IsSteady, AreSteady}
-use Rattle.mv_rewrite.specs.DecidingLaws.{RulesBounded}
+use Rattle.mv_rewrite.proofs.DecidingLaws.{IsSteady, AreSteady, RulesBounded}
 use Rattle.mv_rewrite.specs.Bound.{Bound, unbound}
 use Rattle.mv_rewrite.specs.declared.fit.Fit.{Fit}
 use Rattle.mv_rewrite.specs.declared.fit.Fit.TheVariants.{Whole, Short, Not}

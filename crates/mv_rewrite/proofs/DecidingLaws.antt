@@ -3,7 +3,22 @@ use Rattle.std.specs.Prelude.{◌≡◌, ℕ, zero, suc, ◌-◌, ◌<◌, ◌�
 use Rattle.std.proofs.Common.{sym, ◌∙◌, ap, subst, arith, append_assoc}
 use Rattle.std.proofs.lemmas.List.{drop-append-le, take-append-drop}
 use Rattle.std.proofs.lemmas.List.Concat.{flat_map-append}
-use Rattle.mv_rewrite.specs.Deciding.{first_of_two, chosen, decision, given_by, groups_after, groups, joined, Decides, IsSteady, AreSteady, BeginsWith}
+use Rattle.mv_rewrite.specs.Deciding.{first_of_two, chosen, decision, given_by, groups_after, groups, joined, Decides, BeginsWith}
+
+-- What is asked of a rule for the laws below: what holds of each rule of a file.
+pub record IsSteady {R I : Type 0} (front : R → List I → Option (List I × ℕ)) (could : R → List I → Bool) (r : R) : Type 0 where
+  -- a match takes at least one item, and none that isn't there
+  pub takes : (l made : List I) (n : ℕ) → front r l ≡ Some (made, n) → (0 < n) × (n ≤ length l)
+  -- a match stays with more items behind
+  pub stays : (l m made : List I) (n : ℕ) → front r l ≡ Some (made, n) → front r (l ++ m) ≡ Some (made, n)
+  -- what can't match can't with more items behind
+  pub fails : (l m : List I) → front r l ≡ None → could r l ≡ false → (front r (l ++ m) ≡ None) × (could r (l ++ m) ≡ false)
+  -- what could match lacks an item of at most eight
+  pub short : (l : List I) → could r l ≡ true → length l < 8
+
+abbrev pub AreSteady : {R I : Type 0} → (R → List I → Option (List I × ℕ)) → (R → List I → Bool) → List R → Type 0
+AreSteady front could [] = Unit {0}
+AreSteady front could (r ∷ rules) = IsSteady front could r × AreSteady front could rules
 
 -- what a rule decides or leaves may, and then the rules behind it
 stays_at : {R I : Type 0} (front : R → List I → Option (List I × ℕ)) (could : R → List I → Bool)
@@ -176,11 +191,11 @@ groups_stop decide [] h = refl
 groups_stop decide (x ∷ l) h = rw h refl
 
 -- the groups of some decisions, and then those of what they leave, are those of all
-pub groups_by : {I : Type 0} (decide : List I → Option (List I × ℕ)) (l : List I) (given : List (List I)) (rest : List I)
+pub groups-decided : {I : Type 0} (decide : List I → Option (List I × ℕ)) (l : List I) (given : List (List I)) (rest : List I)
     → TakesSome decide → Decides decide l given rest → groups decide l ≡ given ++ groups decide rest
-groups_by decide l [] rest some h = ap (λ l. groups decide l) h
-groups_by decide l (group ∷ given) rest some h =
-    groups_step decide l (group, h.0) some h.1 ∙ ap (λ gs. group ∷ gs) (groups_by decide (drop h.0 l) given rest some h.2)
+groups-decided decide l [] rest some h = ap (λ l. groups decide l) h
+groups-decided decide l (group ∷ given) rest some h =
+    groups_step decide l (group, h.0) some h.1 ∙ ap (λ gs. group ∷ gs) (groups-decided decide (drop h.0 l) given rest some h.2)
 
 -- what the decisions leave in the end
 decides_by : {I : Type 0} (decide : List I → Option (List I × ℕ)) (passed : ℕ) (l : List I) (o : Option (List I × ℕ))
@@ -231,7 +246,7 @@ pub groups_front : {I : Type 0} (decide later : List I → Option (List I × ℕ
     → TakesSome decide → TakesSome later → Keeps decide later → decide [] ≡ None → BeginsWith (groups later (l ++ m)) (groups decide l)
 groups_front decide later l m some later_some keeps none =
     let d = decides_all decide 0 l some none in
-    (groups later (d.0 ++ m), groups_by later (l ++ m) (groups decide l) (d.0 ++ m) later_some (decides_more decide later l m (groups decide l) d.0 some keeps d.1))
+    (groups later (d.0 ++ m), groups-decided later (l ++ m) (groups decide l) (d.0 ++ m) later_some (decides_more decide later l m (groups decide l) d.0 some keeps d.1))
 
 pub joined_front : {I : Type 0} (whole front : List (List I)) → BeginsWith whole front → BeginsWith (joined whole) (joined front)
 joined_front {I} whole front h =

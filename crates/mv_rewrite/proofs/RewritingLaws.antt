@@ -1,15 +1,15 @@
 -- What is sure of a list is a front of what is sure of each longer one, and of the whole rewritten longer one.
-use Rattle.std.specs.Prelude.{◌≡◌, ◌<◌, Bool, true, false, List, [], ◌++◌, length, None, refl}
+use Rattle.std.specs.Prelude.{◌≡◌, Bool, true, false, List, [], ◌++◌, refl}
 use Rattle.std.proofs.Common.{subst}
 use Rattle.mv_calls.specs.declared.calls.Call.{Call}
 use Rattle.mv_calls.specs.declared.calls.Reply.{Reply}
 use Rattle.mv_rules.specs.declared.rule.Rule.{Rule}
 use Rattle.mv_rules.specs.Shape.{AreShaped}
 use Rattle.mv_rewrite.specs.Deciding.{Decides, BeginsWith}
-use Rattle.mv_rewrite.specs.DecidingLaws.{decision_stays, decision_takes, decision_waits, decision_ends, TakesSome, Keeps, decides_all, groups_front, joined_front}
+use Rattle.mv_rewrite.proofs.DecidingLaws.{decision_stays, decision_takes, decision_waits, decision_ends, TakesSome, Keeps, decides_all, groups_front, joined_front}
 use Rattle.mv_rewrite.specs.Matching.{front_of, could_match}
-use Rattle.mv_rewrite.specs.MatchingLaws.{steady_rules}
-use Rattle.mv_rewrite.specs.Rewriting.{decide, sure_groups, turned_groups, sure, turned}
+use Rattle.mv_rewrite.proofs.MatchingLaws.{steady_rules}
+use Rattle.mv_rewrite.specs.Rewriting.{StopsShort, decide, sure_groups, turned_groups, sure, turned}
 
 -- a decision takes at least one item, and none that isn't there
 pub decide_takes : (more : Bool) (rules : List Rule) → AreShaped rules → TakesSome (decide more rules)
@@ -35,11 +35,6 @@ turned_front rules l m shaped =
     (groups_front (decide true rules) (decide false rules) l m (decide_takes true rules shaped) (decide_takes false rules shaped) (decide_keeps false rules shaped) refl)
 
 -- where the sure decisions stop at most seven items are left
-pub record StopsShort (rules : List Rule) (items rest : List (Call × Reply)) : Type 0 where
-  pub decided : Decides (decide true rules) items (sure_groups rules items) rest
-  pub stopped : decide true rules rest ≡ None
-  pub few : length rest < 8
-
 pub sure_stops : (rules : List Rule) (items : List (Call × Reply)) → AreShaped rules → (rest : List (Call × Reply)) × StopsShort rules items rest
 sure_stops rules items shaped =
     let d = decides_all (decide true rules) 0 items (decide_takes true rules shaped) refl in

@@ -20,16 +20,7 @@ use Rattle.mv_rules.specs.declared.rule.Pattern.{Pattern}
 use Rattle.mv_rules.specs.declared.rule.Pattern.TheVariants as patterns
 use Rattle.mv_rewrite.specs.Bound.{Bound, unbound}
 use Rattle.mv_rewrite.specs.Matching.{value_of, bind_found, bind, bind_fd, bind_time, bind_bytes, bind_part, bind_parts, only_if, bind_item, fd_value, time_value, bytes_value, made_of, trimmed}
-use Rattle.mv_rewrite.specs.Matches.{PartsHold, parts_in}
-
--- what was bound so far has the values of a binding
-abbrev pub HaveValues : {V : Type 0} → List (List ℕ × V) → (List ℕ → V) → Type 0
-HaveValues {V} entries value = (name : List ℕ) (v : V) → value_of name entries ≡ Some v → value name ≡ v
-
-pub record Agrees (b d : Bound) : Type 0 where
-  pub fds : HaveValues b.fds (λ name. unwrap_or (value_of name d.fds) 0)
-  pub times : HaveValues b.times (λ name. unwrap_or (value_of name d.times) 0)
-  pub bytes : HaveValues b.bytes (λ name. unwrap_or (value_of name d.bytes) [])
+use Rattle.mv_rewrite.specs.Matches.{Agrees, HaveValues, PartsHold, parts_in}
 
 pushed_at : {V : Type 0} (test : Bool) (first : V) (rest longer : Option V) (v : V) (P : Type 0)
     → (longer ≡ Some v → (rest ≡ Some v) ⊎ P)

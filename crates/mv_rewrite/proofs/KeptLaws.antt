@@ -17,14 +17,14 @@ use Rattle.mv_rules.specs.declared.rule.Pattern.TheVariants as patterns
 use Rattle.mv_rules.specs.declared.rule.Rule.{Rule}
 use Rattle.mv_rules.specs.Shape.{AreShaped}
 use Rattle.mv_rulecheck.specs.Atoms.{Piece, Byte, Name, LengthOf, pieces_of_part, pieces_of, read_atoms_of, read_atoms, accepts_of, accepts, IsKept, AreKept}
-use Rattle.mv_rewrite.specs.DecidingLaws.{IsAdditive, RuleKeeps, RulesKeep, decision_keeps, measure_kept}
+use Rattle.mv_rewrite.proofs.DecidingLaws.{IsAdditive, RuleKeeps, RulesKeep, decision_keeps, measure_kept}
 use Rattle.mv_rewrite.specs.Bound.{Bound, unbound}
 use Rattle.mv_rewrite.specs.declared.fit.Fit.{Fit}
 use Rattle.mv_rewrite.specs.declared.fit.Fit.TheVariants.{Whole, Short, Not}
 use Rattle.mv_rewrite.specs.Matching.{bytes_named, fd_value, part_value, bytes_value, made_of, trimmed, rule_fit, made_by, front_of, could_match}
-use Rattle.mv_rewrite.specs.BindingLaws.{fit_makes}
+use Rattle.mv_rewrite.proofs.BindingLaws.{fit_makes}
 use Rattle.mv_rewrite.specs.Rewriting.{decide, turned_groups, turned}
-use Rattle.mv_rewrite.specs.RewritingLaws.{turned_ends}
+use Rattle.mv_rewrite.proofs.RewritingLaws.{turned_ends}
 
 -- ## Reads
 

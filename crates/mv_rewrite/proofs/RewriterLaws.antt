@@ -1,5 +1,5 @@
 -- What the calls of a rewriter leave of the lists that it stands for.
-use Rattle.std.specs.Prelude.{◌≡◌, ◌⊎◌, ◌↔◌, ◌<◌, ◌≤◌, Bool, true, false, not, List, [], ◌∷◌, ◌++◌, length, Option, Some, None, IfNone, IfSome, refl}
+use Rattle.std.specs.Prelude.{◌≡◌, ◌⊎◌, ◌↔◌, ◌<◌, ◌≤◌, ℕ, Bool, true, false, not, List, [], ◌∷◌, ◌++◌, drop, length, Option, Some, None, IfNone, IfSome, refl}
 use Rattle.std.proofs.Common.{sym, ◌∙◌, ap, subst, arith, inl, inr}
 use Rattle.std.proofs.lemmas.List.{append-nil}
 use Rattle.mv_calls.specs.declared.calls.Call.{Call}
@@ -7,14 +7,14 @@ use Rattle.mv_calls.specs.declared.calls.Reply.{Reply}
 use Rattle.mv_rules.specs.declared.rule.Rule.{Rule}
 use Rattle.mv_rules.specs.Shape.{AreShaped}
 use Rattle.mv_rewrite.specs.Deciding.{Decides, groups, joined}
-use Rattle.mv_rewrite.specs.DecidingLaws.{decides_more, decides_next, groups_by, groups_stop, decision_waits, decision_ends, decision_bounded}
+use Rattle.mv_rewrite.proofs.DecidingLaws.{decides_more, decides_next, groups-decided, groups_step, groups_stop, decision_waits, decision_ends, decision_bounded}
 use Rattle.mv_rewrite.specs.Matching.{front_of, could_match}
 use Rattle.mv_rewrite.specs.Matches.{WaitsOn}
-use Rattle.mv_rewrite.specs.MatchingLaws.{steady_rules, bounded_rules}
-use Rattle.mv_rewrite.specs.ExactLaws.{undecided}
+use Rattle.mv_rewrite.proofs.MatchingLaws.{steady_rules, bounded_rules}
+use Rattle.mv_rewrite.proofs.ExactLaws.{undecided}
 use Rattle.mv_rewrite.specs.Rewriting.{decide}
-use Rattle.mv_rewrite.specs.RewritingLaws.{decide_takes, decide_keeps}
-use Rattle.mv_rewrite.specs.RewriterState.{RewriterState, next_decision, IsUndecided, Advances, Stands, GivesNext, rewritten, rewritten_by}
+use Rattle.mv_rewrite.proofs.RewritingLaws.{decide_takes, decide_keeps}
+use Rattle.mv_rewrite.specs.RewriterState.{RewriterState, next_decision, IsUndecided, Advances, Stands, GivesNext, rewritten}
 
 -- a new one stands for nothing fed and nothing given
 pub stands_new : (w : RewriterState) → w.held ≡ [] → Stands w [] []
@@ -54,18 +54,27 @@ stands_given old new group a fed given h =
     subst (λ (w : RewriterState). Stands w fed (given ++ group ∷ [])) (sym a.2)
     (record { decided = decides_next (decide (not old.finished) old.rules) fed given old.held (group, a.0) h.decided a.1 })
 
-joined_all : (finished : Bool) (rules : List Rule) (fed : List (Call × Reply)) → rewritten_by finished rules fed ≡ joined (groups (decide (not finished) rules) fed)
-joined_all true rules fed = refl
-joined_all false rules fed = refl
+-- what was given comes first of what all that was fed gives, and what is held gives the rest
+pub groups-stands : (w : RewriterState) (fed : List (Call × Reply)) (given : List (List (Call × Reply))) → AreShaped w.rules → Stands w fed given
+    → groups (decide (not w.finished) w.rules) fed ≡ given ++ groups (decide (not w.finished) w.rules) w.held
+groups-stands w fed given shaped h =
+    groups-decided (decide (not w.finished) w.rules) fed given w.held (decide_takes (not w.finished) w.rules shaped) h.decided
+
+-- the next decision gives the first of the rest
+pub groups-next : (w : RewriterState) (group : List (Call × Reply)) (count : ℕ) → AreShaped w.rules → next_decision w ≡ Some (group, count)
+    → groups (decide (not w.finished) w.rules) w.held ≡ group ∷ groups (decide (not w.finished) w.rules) (drop count w.held)
+groups-next w group count shaped next = groups_step (decide (not w.finished) w.rules) w.held (group, count) (decide_takes (not w.finished) w.rules shaped) next
+
+-- and where there is none, nothing is left
+pub groups-none : (w : RewriterState) → next_decision w ≡ None → groups (decide (not w.finished) w.rules) w.held ≡ []
+groups-none w none = groups_stop (decide (not w.finished) w.rules) w.held none
 
 -- where no decision comes the groups given, joined, are the rewritten list
 pub stands_whole : (w : RewriterState) → AreShaped w.rules → next_decision w ≡ None
     → (fed : List (Call × Reply)) (given : List (List (Call × Reply))) → Stands w fed given → joined given ≡ rewritten w fed
 stands_whole w shaped none fed given h =
-    let all = groups_by (decide (not w.finished) w.rules) fed given w.held (decide_takes (not w.finished) w.rules shaped) h.decided in
-    let stop = groups_stop (decide (not w.finished) w.rules) w.held none in
-    sym (joined_all w.finished w.rules fed
-    ∙ ap (λ (k : List (List (Call × Reply))). joined k) (all ∙ ap (λ (k : List (List (Call × Reply))). given ++ k) stop ∙ append-nil given))
+    sym (ap (λ (k : List (List (Call × Reply))). joined k)
+    (groups-stands w fed given shaped h ∙ ap (λ (k : List (List (Call × Reply))). given ++ k) (groups-none w none) ∙ append-nil given))
 
 -- then at most seven items are held
 pub held_few : (w : RewriterState) → AreShaped w.rules → next_decision w ≡ None → length w.held < 8
