@@ -60,8 +60,7 @@ fn turn_by<V: Version>(
         return Ok(None);
     }
     let line = line_of(alloc, entry)?;
-    let payload = entry.payload(line);
-    let next = enter(alloc, audit, updates, entry, payload)?;
+    let next = enter(alloc, audit, updates, entry, line)?;
     Ok(Some(next))
 }
 

@@ -68,7 +68,7 @@ impl Entry {
     /// and 32 for each subscription and each event of a poll. `line` is the length of the line that answers an order, and
     /// anything for another entry.
     #[tactic(auto, using(crate::proofs::Weights::adds_once))]
-    pub fn payload(&self, line: usize) -> u64
+    pub(crate) fn payload(&self, line: usize) -> u64
         requires line { HasLine self.now line }
         ensures payload { result ≡ min (payload_of self.now) (2 ^ 64 - 1) }
     {

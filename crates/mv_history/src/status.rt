@@ -1,6 +1,6 @@
 //! What of a run no guest knows: the stage, the counts, what is wanted and asked.
 ghost use Rattle.std.specs.Prelude.{◌≡◌, ◌<◌, ◌^◌, ◌+◌, ◌-◌, min};
-ghost use Rattle.mv_history.specs.Payload.{payload_of};
+ghost use Rattle.mv_history.specs.Payload.{HasLine, payload_of};
 ghost use Rattle.mv_history.specs.Statuses.{answered, changed, early_reply, first_status, is_alone as alone_stage, is_within, kind_of, marked, only_in as only, is_old_leads, is_new_leads, point_leads, status_after, update_refusal, urgent_of};
 
 use crate::log::{Cause, Entry, How, Mark, Why};
@@ -225,9 +225,9 @@ impl Status {
         }
     }
 
-    /// The status after an entry of this payload.
-    pub fn after(&self, entry: &Entry, payload: u64) -> Status
-        requires payload { payload ≡ min (payload_of entry.now) (2 ^ 64 - 1) }
+    /// The status after an entry. `line` is the length of the line that answers an order, and anything for another entry.
+    pub fn after(&self, entry: &Entry, line: usize) -> Status
+        requires line { HasLine entry.now line }
         requires counts { (self.now.number < 2 ^ 63) × (self.now.since < 2 ^ 63) × (self.now.updates < 2 ^ 31) × (self.now.fresh < 2 ^ 31) }
         ensures after { result ≡ status_after self.now entry.now }
     {
@@ -235,17 +235,17 @@ impl Status {
         Status {
             number: self.number + 1,
             since: self.since + 1,
-            weight: self.weighed(entry, payload),
+            weight: self.weighed(entry, line),
             ..changed
         }
     }
 
     #[tactic(auto, using(crate::proofs::Weights::weighs_once))]
-    fn weighed(&self, _entry: &Entry, payload: u64) -> u64
-        requires { payload ≡ min (payload_of _entry.now) (2 ^ 64 - 1) }
-        ensures { result ≡ min (self.now.weight + payload_of _entry.now) (2 ^ 64 - 1) }
+    fn weighed(&self, entry: &Entry, line: usize) -> u64
+        requires { HasLine entry.now line }
+        ensures { result ≡ min (self.now.weight + payload_of entry.now) (2 ^ 64 - 1) }
     {
-        self.weight.saturating_add(payload)
+        self.weight.saturating_add(entry.payload(line))
     }
 
     fn changed(&self, entry: &Entry) -> Status
