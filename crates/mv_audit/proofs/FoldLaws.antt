@@ -4,15 +4,14 @@ use Rattle.std.proofs.Common.{ap, arith, sym, subst, ◌∙◌, append_assoc, ap
 use Rattle.mv_version.specs.Behaviour.{Behaviour}
 use Rattle.mv_audit.specs.Audit.{IsCounted}
 use Rattle.mv_history.specs.Statuses.{changed, status_after}
-use Rattle.mv_history.specs.World.{World, AreLegal, IsFirstIllegal, MayEnd, MayEnter, MayMark, after_entries, after_entry, begun}
+use Rattle.mv_history.specs.World.{World, AreLegal, IsFirstIllegal, MayEnter, after_entries, after_entry, begun}
 use Rattle.mv_history.specs.declared.log.Entry.{Entry}
 use Rattle.mv_history.specs.declared.log.Entry.TheVariants as entry
-use Rattle.mv_history.specs.declared.log.How.{How}
-use Rattle.mv_history.specs.declared.log.How.TheVariants as how
 use Rattle.mv_history.specs.declared.log.Mark.{Mark}
 use Rattle.mv_history.specs.declared.log.Mark.TheVariants as mark
 use Rattle.mv_history.specs.declared.status.Status.{Status}
 use Rattle.mv_history.specs.declared.updates.Update.{Update}
+use Rattle.mv_history.proofs.Ending.{may_runs}
 use Rattle.mv_history.proofs.OrderLaws.{order_keeps}
 use Rattle.mv_history.proofs.WorldLaws.{AreLegal-append, after_entries-append, legal_small}
 
@@ -38,38 +37,11 @@ numbers_alike : (st : Status) (e : Entry) → st.number ≡ st.since → (status
 numbers_alike st e h = ap (λ n. n + 1) h
 
 module _ {V : Type 0} (b : Behaviour V) where
-  end_runs : (w : World V) (x : How) → MayEnd b w x → w.status.ended ≡ None
-  end_runs w (how.Ended code) may = may.0.is_open.runs
-  end_runs w (how.Trapped trap) may = may.0.is_open.runs
-  end_runs w how.Halted may = may.0.runs
-  end_runs w how.KernelFault may = may.0.is_open.runs
-  end_runs w how.LogLimit may = may.0
-  end_runs w how.Memory may = may
-  end_runs w how.Cut may = may
-
-  mark_runs : (w : World V) (m : Mark) → MayMark b w m → w.status.ended ≡ None
-  mark_runs w (mark.Fork u) may = may.0.is_open.runs
-  mark_runs w (mark.NoCopy u) may = may.0.is_open.runs
-  mark_runs w (mark.Hand x) may = may.0.is_open.runs
-  mark_runs w mark.Promote may = may.0
-  mark_runs w mark.Over may = may.0
-  mark_runs w mark.Back may = may.0
-  mark_runs w mark.Finish may = may.0.runs
-  mark_runs w (mark.Discard x) may = may.0
-  mark_runs w (mark.Dropped x) may = may.0
-  mark_runs w (mark.End x) may = end_runs w x may
-
   module _ (updates : List Update) where
-    entry_runs : (w : World V) (e : Entry) → MayEnter b updates w e → w.status.ended ≡ None
-    entry_runs w (entry.Call item) may = may.0.is_open.runs
-    entry_runs w entry.Point may = may.0.is_open.runs
-    entry_runs w (entry.Order text r) may = may.0.is_open.runs
-    entry_runs w (entry.Mark m) may = mark_runs w m may
-
     -- the counts before an entry that may come
     pub counts_fit : (w : World V) (e : Entry) → MayEnter b updates w e → IsCounted w.status → (w.status.number < 2 ^ 63) × (w.status.since < 2 ^ 63) × (w.status.updates < 2 ^ 31) × (w.status.fresh < 2 ^ 31)
     counts_fit w e may counted =
-        let few = counted.small.entries (entry_runs w e may) in
+        let few = counted.small.entries (may_runs b updates w e may) in
         let orders : w.status.fresh ≤ 64 = counted.small.orders in
         let number = counted.number in
         let alike = counted.updates in

@@ -2,4 +2,3 @@ pub mod AnsweringLaws
 pub mod AuditLaws
 pub mod FoldLaws
 pub mod JudgementLaws
-pub mod SayableLaws

@@ -12,7 +12,6 @@ use Rattle.mv_syntax.specs.declared.fault.BornFault.{BornFault}
 use Rattle.mv_history.specs.Followers.{Base, Forked, Standing, Following, replayed, IsOtherwise}
 use Rattle.mv_history.specs.Small.{IsSmall}
 use Rattle.mv_history.specs.Statuses.{urgent_of}
-use Rattle.mv_orders.specs.Reply.{IsText}
 use Rattle.mv_history.specs.World.{World, lead_after, lead_marked, following_after, following_marked, reached_or, also_stands}
 use Rattle.mv_history.specs.declared.log.Entry.{Entry}
 use Rattle.mv_history.specs.declared.log.Entry.TheVariants as entry
@@ -145,8 +144,3 @@ pub record IsCounted (st : Status) : Type 0 where
   pub small : IsSmall st
   pub number : st.number ≡ st.since
   pub updates : st.updates ≡ st.fresh
-
--- the answer to an order has a line
-abbrev pub IsSayable : Entry → Type 0
-IsSayable (entry.Order text answer) = IsText answer
-IsSayable e = Unit {0}

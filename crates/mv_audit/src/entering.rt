@@ -1,9 +1,8 @@
 //! The world after an entry, plainly.
-ghost use Rattle.std.specs.Prelude.{◌≡◌, ◌<◌, ◌^◌, ◌-◌, true, min, IfOk, Some, None};
+ghost use Rattle.std.specs.Prelude.{◌≡◌, ◌<◌, ◌^◌, true, IfOk, Some, None};
 ghost use Rattle.mv_version.specs.declared.event.Event.TheVariants as events;
 ghost use Rattle.mv_audit.specs.Audit.{StandsIn, follower_of, following_of, guests_after, guests_marked, handed_over, world_of};
 ghost use Rattle.mv_history.specs.Followers.{Reaches, replayed};
-ghost use Rattle.mv_history.specs.Payload.{payload_of};
 ghost use Rattle.mv_history.specs.Replay.{Stands};
 ghost use Rattle.mv_history.specs.World.{IsReady, MayEnter, MayMark, after_entry, also_hears, files_of, fork};
 
@@ -246,20 +245,18 @@ fn moved<V: Version>(
     }
 }
 
-/// The world after an entry that may come, of this payload.
+/// The world after an entry that may come.
 pub(crate) fn enter<V: Version>(
     alloc: Global,
     audit: Audit<V>,
     updates: &[Update],
     entry: &Entry,
-    payload: u64,
 ) -> Result<Audit<V>, OutOfMemory>
     requires may { MayEnter V.behaviour updates.now (world_of V.behaviour audit) entry.now }
-    requires payload { payload ≡ min (payload_of entry.now) (2 ^ 64 - 1) }
     requires counts { (audit.status.number < 2 ^ 63) × (audit.status.since < 2 ^ 63) × (audit.status.updates < 2 ^ 31) × (audit.status.fresh < 2 ^ 31) }
     ensures { IfOk result (λ next. world_of V.behaviour next ≡ after_entry V.behaviour updates.now (world_of V.behaviour audit) entry.now) }
 {
-    let status = audit.status.after(entry, payload);
+    let status = audit.status.after(entry);
     let next = moved(alloc, audit, updates, entry)?;
     Ok(Audit {
         lead: next.lead,

@@ -1,30 +1,14 @@
 //! The plain, slow reading of a log: the first entry that may not come.
 ghost use Rattle.std.specs.Prelude.{◌≡◌, IfOk, IfNone, IfSome};
-ghost use Rattle.mv_audit.specs.Audit.{IsCounted, IsSayable, world_of};
-ghost use Rattle.mv_history.specs.Payload.{HasLine};
+ghost use Rattle.mv_audit.specs.Audit.{IsCounted, world_of};
 ghost use Rattle.mv_history.specs.World.{AreLegal, IsFirstIllegal, MayEnter, after_entry, begun};
 
 use crate::auditing::{Audit, may_enter};
 use crate::entering::enter;
 use mv_calls::OutOfMemory;
 use mv_history::{Entry, Status, Update, Updates};
-use mv_orders::reply_line;
 use mv_version::{Event, Version};
 use std::alloc::Global;
-
-/// How many bytes the line has that answers an order, and 0 for another entry.
-fn line_of(alloc: Global, entry: &Entry) -> Result<usize, OutOfMemory>
-    requires { IsSayable entry.now }
-    ensures { IfOk result (λ line. HasLine entry.now line) }
-{
-    match entry {
-        Entry::Order { reply, .. } => {
-            let line = reply_line(alloc, reply)?;
-            Ok(line.slice().len())
-        }
-        _ => Ok(0),
-    }
-}
 
 /// The same world, with what the leader does next.
 fn next_of<V: Version>(alloc: Global, audit: Audit<V>) -> Result<(Audit<V>, Event), OutOfMemory>
@@ -42,7 +26,7 @@ fn next_of<V: Version>(alloc: Global, audit: Audit<V>) -> Result<(Audit<V>, Even
 }
 
 /// The world after the entry, if it may come where the leader does this.
-#[tactic(auto, using(crate::proofs::SayableLaws::sayable, crate::proofs::FoldLaws::counts_fit))]
+#[tactic(auto, using(crate::proofs::FoldLaws::counts_fit))]
 fn turn_by<V: Version>(
     alloc: Global,
     audit: Audit<V>,
@@ -59,9 +43,7 @@ fn turn_by<V: Version>(
     if !may_enter(alloc, &audit, event, updates, entry)? {
         return Ok(None);
     }
-    let line = line_of(alloc, entry)?;
-    let payload = entry.payload(line);
-    let next = enter(alloc, audit, updates, entry, payload)?;
+    let next = enter(alloc, audit, updates, entry)?;
     Ok(Some(next))
 }
 

@@ -8,8 +8,10 @@ ghost use Rattle.mv_version.specs.declared.event.Event.TheVariants as event;
 use super::*;
 use mv_calls::{Bytes, Call, Item, Or, OutOfMemory, Reply, Texts};
 use mv_history::{
-    Cause, Entry, How, Mark, Update, Updates, Why, counts_fit, leads_by_itself, no_byte_lost,
-    one_world, replays_join, turns_are_legal, verdicts_stay, worlds_have_a_shape,
+    Cause, Entry, How, Mark, Update, Updates, Why, counts_fit, followers_hear,
+    later_updates_are_unread, leads_by_itself, logs_end_once, logs_join, messages_are_settled,
+    no_byte_lost, orders_keep_the_rest, replays_join, spots_are_tied, turns_are_legal,
+    turns_send_little, verdicts_stay, worlds_have_a_shape,
 };
 use mv_orders::{OrderReply, Word};
 use mv_syntax::BornFault;
@@ -101,7 +103,6 @@ impl Small {
 
 #[test]
 fn the_laws_speak_of_a_version(_rt: HostRuntime) -> Result<(), Fail> {
-    one_world::<Small>();
     replays_join::<Small>();
     verdicts_stay::<Small>();
     no_byte_lost::<Small>();
@@ -109,6 +110,19 @@ fn the_laws_speak_of_a_version(_rt: HostRuntime) -> Result<(), Fail> {
     counts_fit::<Small>();
     worlds_have_a_shape::<Small>();
     turns_are_legal::<Small>();
+    Ok(())
+}
+
+#[test]
+fn the_laws_of_parts_speak_of_a_version(_rt: HostRuntime) -> Result<(), Fail> {
+    logs_join::<Small>();
+    logs_end_once::<Small>();
+    followers_hear::<Small>();
+    later_updates_are_unread::<Small>();
+    orders_keep_the_rest();
+    turns_send_little::<Small>();
+    spots_are_tied::<Small>();
+    messages_are_settled::<Small>();
     Ok(())
 }
 

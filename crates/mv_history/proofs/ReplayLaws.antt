@@ -84,6 +84,3 @@ module _ {V : Type 0} (b : Behaviour V) (ends : PointsEnd b) where
   pub past_passed : (s : V) → b.go s ≡ event.Point → past b (b.passed s) ≡ past b s
   past_passed s here =
       past_fuel (suc (b.left (b.passed s))) (b.left s) (b.passed s) (left_enough (b.passed s)) (passed_fewer s here) ∙ sym (ap (λ e. cond (is_point e) (past_in b (b.left s) (b.passed s)) s) here)
-
-  pub past_here : (s : V) → is_point (b.go s) ≡ false → past b s ≡ s
-  past_here s other = ap (λ t. cond t (past_in b (b.left s) (b.passed s)) s) other

@@ -1,6 +1,6 @@
 -- The laws over whole logs from the first world on.
 use Rattle.std.specs.Prelude.{◌≡◌, ℕ, ◌<◌, Some, None, List, [], ◌++◌, refl}
-use Rattle.std.proofs.Common.{arith, sym, ◌∙◌}
+use Rattle.std.proofs.Common.{arith}
 use Rattle.mv_feed.specs.declared.msg.Msg.{Msg}
 use Rattle.mv_version.specs.Behaviour.{Behaviour}
 use Rattle.mv_history.specs.Followers.{FollowerShows, Reaches}
@@ -8,7 +8,7 @@ use Rattle.mv_history.specs.Places.{Place, place_of, is_handed}
 use Rattle.mv_history.specs.Small.{IsSmall}
 use Rattle.mv_history.specs.Statuses.{first_status}
 use Rattle.mv_history.specs.Ties.{Ties, hand_of, HandsPast}
-use Rattle.mv_history.specs.World.{World, AreLegal, IsReady, Leads, Shows, after_entries, begun, sent}
+use Rattle.mv_history.specs.World.{AreLegal, IsReady, Shows, after_entries, begun, sent}
 use Rattle.mv_history.specs.declared.log.Cause.{Cause}
 use Rattle.mv_history.specs.declared.log.Entry.{Entry}
 use Rattle.mv_history.specs.declared.updates.Update.{Update}
@@ -34,9 +34,6 @@ first_ties first = record {
 
 pub first_small : IsSmall first_status
 first_small = record { entries = λ _. omega arith; orders = omega arith }
-
-pub leads_one : {V : Type 0} (b : Behaviour V) (updates : List Update) (w : World V) (e : Entry) (x y : World V) → Leads b updates w e x → Leads b updates w e y → x ≡ y
-leads_one b updates w e x y one other = one.next_is ∙ sym other.next_is
 
 module _ {V : Type 0} (b : Behaviour V) (updates : List Update) where
   pub cause_whole : (first : V) (es : List Entry) (prefix rest : List (Msg V)) (place : Place V) (c : Cause) → AreLegal b updates (begun first) es →

@@ -44,7 +44,8 @@ within_by since weight h = grind (arith, nat_tests, h)
 pub open_few : (st : Status) → IsOpen st → st.since < entry_limit
 open_few st runs = within_by st.since st.weight runs.within
 
-marks_few : (s : Stage) → marks_left s ≤ 2
+-- a judgement has two marks left at most
+pub marks_few : (s : Stage) → marks_left s ≤ 2
 marks_few OldAlone = omega arith
 marks_few OldLeads = omega arith
 marks_few NewLeads = omega arith

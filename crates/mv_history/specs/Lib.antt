@@ -1,11 +1,15 @@
 pub mod Answers
+pub mod Ends
+pub mod Files
 pub mod Followers
 pub mod Leads
+pub mod Linked
 pub mod Payload
 pub mod Places
 pub mod Replay
 pub mod Roomy
 pub mod Rules
+pub mod Settled
 pub mod Shapes
 pub mod Small
 pub mod Spots

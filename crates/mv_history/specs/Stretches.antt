@@ -1,5 +1,7 @@
 -- Stretches of a log in which one version leads, or one follower stands.
-use Rattle.std.specs.Prelude.{List, [], ◌∷◌}
+use Rattle.std.specs.Prelude.{List, [], ◌∷◌, ◌++◌}
+use Rattle.mv_calls.specs.declared.calls.Call.{Call}
+use Rattle.mv_calls.specs.declared.calls.Reply.{Reply}
 use Rattle.mv_version.specs.Behaviour.{Behaviour}
 use Rattle.mv_history.specs.declared.log.Entry.{Entry}
 use Rattle.mv_history.specs.declared.log.Entry.TheVariants as entry
@@ -30,3 +32,11 @@ run_of b s [] = s
 run_of b s (entry.Call item ∷ es) = run_of b (b.after s item.1) es
 run_of b s (entry.Point ∷ es) = run_of b (b.passed s) es
 run_of b s (e ∷ es) = run_of b s es
+
+-- the calls since the last copy or promotion, behind those before the entries
+abbrev pub heard_since : List (Call × Reply) → List Entry → List (Call × Reply)
+heard_since items [] = items
+heard_since items (entry.Call item ∷ es) = heard_since (items ++ item ∷ []) es
+heard_since items (entry.Mark (mark.Fork u) ∷ es) = heard_since [] es
+heard_since items (entry.Mark mark.Promote ∷ es) = heard_since [] es
+heard_since items (e ∷ es) = heard_since items es

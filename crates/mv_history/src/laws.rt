@@ -19,14 +19,9 @@ ghost use Rattle.mv_history.specs.Shapes.{Shaped};
 ghost use Rattle.mv_history.specs.Small.{IsSmall};
 ghost use Rattle.mv_history.specs.Stretches.{KeepsFollower, KeepsLeader, MarksAre, run_of};
 ghost use Rattle.mv_history.specs.Ties.{hand_of, with_more};
-ghost use Rattle.mv_history.specs.World.{AreLegal, IsReady, Leads, MayEnter, Shows, World, after_entries, begun, outside, sent};
+ghost use Rattle.mv_history.specs.World.{AreLegal, IsReady, MayEnter, Shows, World, after_entries, begun, outside, sent};
 
 use mv_version::Version;
-
-/// An entry that may come leads to one world.
-pub fn one_world<V: Version>()
-    ensures one { (updates : List update) (w : World V) (e : entry) (x y : World V) → Leads V.behaviour updates w e x → Leads V.behaviour updates w e y → x ≡ y }
-{}
 
 /// The replay of two lists, joined, is the replay of the second from where the first leads; and it fails where the
 /// first does.

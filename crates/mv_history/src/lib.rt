@@ -2,21 +2,30 @@
 //! definitions stand in `specs` (docs/DEFINITIONS.md tells them in plain words); `mv_audit` reads a log by them.
 #![tactic(auto)]
 
+mod entering;
 mod entries;
 mod laws;
 mod log;
+mod log_laws;
 mod payload;
+mod spot_laws;
 mod status;
 #[cfg(test)]
 mod tests;
 mod updates;
 
+pub use entering::{end_log, enter, enter_mark};
 pub use entries::Entries;
 pub use laws::{
-    accepted_rules_are_shaped, counts_fit, leads_by_itself, no_byte_lost, one_world, replays_join,
+    accepted_rules_are_shaped, counts_fit, leads_by_itself, no_byte_lost, replays_join,
     turns_are_legal, verdicts_stay, worlds_have_a_shape,
 };
 pub use log::{Cause, Entry, How, Log, Mark, Side, Start, Why};
+pub use log_laws::{
+    followers_hear, later_updates_are_unread, logs_end_once, logs_join, orders_keep_the_rest,
+    turns_send_little,
+};
+pub use spot_laws::{messages_are_settled, spots_are_tied};
 pub use status::{
     Asked, AtPoint, ENTRY_LIMIT, PAYLOAD_LIMIT, Status, UPDATE_LIMIT, Urgent, Wanted,
 };

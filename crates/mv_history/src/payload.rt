@@ -68,7 +68,7 @@ impl Entry {
     /// What this entry weighs in a log: the bytes of writes, of reads, of random bytes, of order texts and of reply lines,
     /// and 32 for each subscription and each event of a poll.
     #[tactic(auto, using(crate::proofs::Weights::adds_once))]
-    pub fn payload(&self) -> u64
+    pub(crate) fn payload(&self) -> u64
         ensures { result ≡ min (payload_of self.now) (2 ^ 64 - 1) }
     {
         match self {

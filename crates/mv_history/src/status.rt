@@ -229,9 +229,8 @@ impl Status {
         }
     }
 
-    /// The status after an entry of this payload.
-    pub fn after(&self, entry: &Entry, payload: u64) -> Status
-        requires payload { payload ≡ min (payload_of entry.now) (2 ^ 64 - 1) }
+    /// The status after an entry.
+    pub fn after(&self, entry: &Entry) -> Status
         requires counts { (self.now.number < 2 ^ 63) × (self.now.since < 2 ^ 63) × (self.now.updates < 2 ^ 31) × (self.now.fresh < 2 ^ 31) }
         ensures after { result ≡ status_after self.now entry.now }
     {
@@ -239,17 +238,16 @@ impl Status {
         Status {
             number: self.number + 1,
             since: self.since + 1,
-            weight: self.weighed(entry, payload),
+            weight: self.weighed(entry),
             ..changed
         }
     }
 
     #[tactic(auto, using(crate::proofs::Weights::weighs_once))]
-    fn weighed(&self, _entry: &Entry, payload: u64) -> u64
-        requires { payload ≡ min (payload_of _entry.now) (2 ^ 64 - 1) }
-        ensures { result ≡ min (self.now.weight + payload_of _entry.now) (2 ^ 64 - 1) }
+    fn weighed(&self, entry: &Entry) -> u64
+        ensures { result ≡ min (self.now.weight + payload_of entry.now) (2 ^ 64 - 1) }
     {
-        self.weight.saturating_add(payload)
+        self.weight.saturating_add(entry.payload())
     }
 
     fn changed(&self, entry: &Entry) -> Status

@@ -46,7 +46,7 @@ fn orders_are_answered_by_the_stage(rt: HostRuntime) -> Result<(), Fail> {
             })
         )
     );
-    let led = alone.after(&Entry::Mark(Mark::Fork { update: 1 }), 0);
+    let led = alone.after(&Entry::Mark(Mark::Fork { update: 1 }));
     assert!(rt; is_stage(led.early_reply(&Order::Finish), Stage::OldLeads));
     assert!(rt;
         matches!(
