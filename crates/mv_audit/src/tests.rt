@@ -8,8 +8,9 @@ ghost use Rattle.mv_version.specs.declared.event.Event.TheVariants as event;
 use super::*;
 use mv_calls::{Bytes, Call, Item, Or, OutOfMemory, Reply, Texts};
 use mv_history::{
-    Cause, Entry, How, Mark, Update, Updates, Why, counts_fit, leads_by_itself, no_byte_lost,
-    one_world, replays_join, turns_are_legal, verdicts_stay, worlds_have_a_shape,
+    Cause, Entry, How, Mark, Update, Updates, Why, bases_follow, counts_fit, entries_send_few,
+    judgements_may_come, leads_by_itself, messages_make_the_follower, no_byte_lost, readings_stay,
+    replays_join, steps_are_shown, turns_are_legal, verdicts_stay, worlds_have_a_shape,
 };
 use mv_orders::{OrderReply, Word};
 use mv_syntax::BornFault;
@@ -101,7 +102,6 @@ impl Small {
 
 #[test]
 fn the_laws_speak_of_a_version(_rt: HostRuntime) -> Result<(), Fail> {
-    one_world::<Small>();
     replays_join::<Small>();
     verdicts_stay::<Small>();
     no_byte_lost::<Small>();
@@ -109,6 +109,12 @@ fn the_laws_speak_of_a_version(_rt: HostRuntime) -> Result<(), Fail> {
     counts_fit::<Small>();
     worlds_have_a_shape::<Small>();
     turns_are_legal::<Small>();
+    messages_make_the_follower::<Small>();
+    bases_follow::<Small>();
+    entries_send_few::<Small>();
+    judgements_may_come::<Small>();
+    steps_are_shown::<Small>();
+    readings_stay::<Small>();
     Ok(())
 }
 

@@ -1,13 +1,16 @@
+pub mod BaseLaws
 pub mod ByteLaws
 pub mod ExtendsLaws
 pub mod FollowerLaws
 pub mod HandLaws
 pub mod LeadLaws
+pub mod MarkLaws
 pub mod OrderLaws
 pub mod ReplayLaws
 pub mod Rows
 pub mod RulesLaws
 pub mod ShapeLaws
+pub mod SpotLaws
 pub mod StretchLaws
 pub mod TiesLaws
 pub mod Weights

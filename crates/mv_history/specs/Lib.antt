@@ -1,8 +1,11 @@
 pub mod Answers
+pub mod Bases
 pub mod Followers
+pub mod Judged
 pub mod Leads
 pub mod Payload
 pub mod Places
+pub mod Readings
 pub mod Replay
 pub mod Roomy
 pub mod Rules

@@ -178,11 +178,6 @@ module _ {V : Type 0} (b : Behaviour V) where
   MayEnter updates w (entry.Order text answer) = IsFree w.status × Answers w.status updates text answer
   MayEnter updates w (entry.Mark m) = MayMark w m
 
-  -- the entry may come in the first world, and leads to the second
-  pub record Leads (updates : List Update) (w : World V) (e : Entry) (next : World V) : Type 0 where
-    pub may : MayEnter updates w e
-    pub next_is : next ≡ after_entry b updates w e
-
   -- ## Logs
 
   -- the world after some entries
