@@ -3,38 +3,13 @@ use Rattle.std.specs.Prelude.{◌≡◌, ℕ, ◌+◌, ◌<◌, ◌≤◌, ◌^�
 use Rattle.std.proofs.Common.{ap, arith, sym, subst, ◌∙◌, append_assoc, append-nil, length-append}
 use Rattle.mv_version.specs.Behaviour.{Behaviour}
 use Rattle.mv_audit.specs.Audit.{IsCounted}
-use Rattle.mv_history.specs.Statuses.{changed, status_after}
-use Rattle.mv_history.specs.World.{World, AreLegal, IsFirstIllegal, MayEnter, after_entries, after_entry, begun}
+use Rattle.mv_history.specs.Statuses.{first_status}
+use Rattle.mv_history.specs.World.{World, AreLegal, IsFirstIllegal, MayEnter, after_entries, after_entry}
 use Rattle.mv_history.specs.declared.log.Entry.{Entry}
-use Rattle.mv_history.specs.declared.log.Entry.TheVariants as entry
-use Rattle.mv_history.specs.declared.log.Mark.{Mark}
-use Rattle.mv_history.specs.declared.log.Mark.TheVariants as mark
-use Rattle.mv_history.specs.declared.status.Status.{Status}
 use Rattle.mv_history.specs.declared.updates.Update.{Update}
 use Rattle.mv_history.proofs.Ending.{may_runs}
-use Rattle.mv_history.proofs.OrderLaws.{order_keeps}
-use Rattle.mv_history.proofs.WorldLaws.{AreLegal-append, after_entries-append, legal_small}
-
-mark_alike : (st : Status) (m : Mark) → st.updates ≡ st.fresh → (changed st (entry.Mark m)).updates ≡ (changed st (entry.Mark m)).fresh
-mark_alike st (mark.Fork u) h = h
-mark_alike st (mark.NoCopy u) h = h
-mark_alike st (mark.Hand x) h = h
-mark_alike st mark.Promote h = h
-mark_alike st mark.Over h = h
-mark_alike st mark.Back h = h
-mark_alike st mark.Finish h = h
-mark_alike st (mark.Discard x) h = h
-mark_alike st (mark.Dropped x) h = h
-mark_alike st (mark.End x) h = h
-
-counts_alike : (st : Status) (e : Entry) → st.updates ≡ st.fresh → (changed st e).updates ≡ (changed st e).fresh
-counts_alike st (entry.Call item) h = h
-counts_alike st entry.Point h = h
-counts_alike st (entry.Order text r) h = let k = (order_keeps st r).rises in omega (arith, h, k)
-counts_alike st (entry.Mark m) h = mark_alike st m h
-
-numbers_alike : (st : Status) (e : Entry) → st.number ≡ st.since → (status_after st e).number ≡ (status_after st e).since
-numbers_alike st e h = ap (λ n. n + 1) h
+use Rattle.mv_history.proofs.Whole.{first_small}
+use Rattle.mv_history.proofs.WorldLaws.{AreLegal-append, after_entries-append, entry_rises, legal_small}
 
 module _ {V : Type 0} (b : Behaviour V) where
   module _ (updates : List Update) where
@@ -44,12 +19,15 @@ module _ {V : Type 0} (b : Behaviour V) where
         let few = counted.small.entries (may_runs b updates w e may) in
         let orders : w.status.fresh ≤ 64 = counted.small.orders in
         let number = counted.number in
-        let alike = counted.updates in
-        (omega (arith, few, number), omega (arith, few), omega (arith, orders, alike), omega (arith, orders))
+        let accepted = counted.updates in
+        (omega (arith, few, number), omega (arith, few), omega (arith, orders, accepted), omega (arith, orders))
 
     counted_once : (w : World V) (e : Entry) → MayEnter b updates w e → IsCounted w.status → IsCounted (after_entry b updates w e).status
     counted_once w e may counted =
-        record { small = legal_small b updates w (e ∷ []) (may, tt) counted.small; number = numbers_alike w.status e counted.number; updates = counts_alike w.status e counted.updates }
+        let number = counted.number in
+        let accepted = counted.updates in
+        let rise = (entry_rises w.status e).0 in
+        record { small = legal_small b updates w (e ∷ []) (may, tt) counted.small; number = omega (arith, number); updates = omega (arith, accepted, rise) }
 
     -- i entries were read, and may come; the rest is left
     pub record IsFolded (first : World V) (es : List Entry) (i : ℕ) (rest : List Entry) (w : World V) : Type 0 where
@@ -60,16 +38,8 @@ module _ {V : Type 0} (b : Behaviour V) where
       pub world : w ≡ after_entries b updates first before
       pub counted : IsCounted w.status
 
-    pub folded_first : (lead : V) (es : List Entry) → IsFolded (begun lead) es 0 es (begun lead)
-    folded_first lead es =
-        record {
-          before = [];
-          split = refl;
-          count = refl;
-          legal = tt;
-          world = refl;
-          counted = record { small = record { entries = λ _. omega arith; orders = omega arith }; number = refl; updates = refl };
-        }
+    pub folded_first : (first : World V) (es : List Entry) → IsCounted first.status → IsFolded first es 0 es first
+    folded_first first es counted = record { before = []; split = refl; count = refl; legal = tt; world = refl; counted = counted }
 
     pub folded_more : (first : World V) (es : List Entry) (i : ℕ) (e : Entry) (rest : List Entry) (w next : World V) → IsFolded first es i (e ∷ rest) w
         → MayEnter b updates w e → next ≡ after_entry b updates w e → IsFolded first es (i + 1) rest next
@@ -95,6 +65,9 @@ module _ {V : Type 0} (b : Behaviour V) where
     folded_all first es i w folded =
         let P : List Entry → Type 0 = λ x. AreLegal b updates first x in
         subst P (sym (folded.split ∙ append-nil folded.before)) folded.legal
+
+pub first_counted : IsCounted first_status
+first_counted = record { small = first_small; number = omega arith; updates = omega arith }
 
 -- ## What a turn answered
 

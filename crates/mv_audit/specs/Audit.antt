@@ -1,5 +1,5 @@
 -- For private clauses: what the values of the plain fold stand for.
-use Rattle.std.specs.Prelude.{◌≡◌, ℕ, Bool, cond, IsTrue, Option, Some, None, List}
+use Rattle.std.specs.Prelude.{◌≡◌, ℕ, ◌+◌, ◌≤◌, ◌^◌, Bool, cond, IsTrue, Option, Some, None, List}
 use Rattle.mv_calls.specs.Suits.{suits_of}
 use Rattle.mv_calls.specs.declared.calls.Call.{Call}
 use Rattle.mv_calls.specs.declared.calls.Reply.{Reply}
@@ -139,8 +139,9 @@ guests_marked b updates w m = record { lead = lead_marked b w m; following = fol
 abbrev pub guests_after : {V : Type 0} → Behaviour V → List Update → World V → Entry → World V
 guests_after b updates w e = record { lead = lead_after b w e; following = following_after b updates w e; status = w.status }
 
--- the counts of a status since a run's beginning
+-- The counts of a log are within its limits, and so few entries and updates were before it that those of the run fit their
+-- types; before the first log of a run there were none.
 pub record IsCounted (st : Status) : Type 0 where
   pub small : IsSmall st
-  pub number : st.number ≡ st.since
-  pub updates : st.updates ≡ st.fresh
+  pub number : st.number ≤ st.since + 2 ^ 62
+  pub updates : st.updates ≤ st.fresh + 2 ^ 30

@@ -63,6 +63,28 @@ fn turn<V: Version>(
     turn_by(alloc, audit, &event, updates, entry)
 }
 
+/// The number of the first entry that may not come, counted from 0, in a log that begins with this world and has these updates;
+/// none where the log is legal.
+fn first_illegal_from<V: Version>(
+    alloc: Global,
+    audit: Audit<V>,
+    updates: &Updates,
+    entries: &[Entry],
+) -> Result<Option<u64>, OutOfMemory>
+    requires { IsCounted audit.status }
+    ensures legal { IfOk result (λ first. IfNone first (AreLegal V.behaviour updates.now.list (world_of V.behaviour audit) entries.now)) }
+    ensures illegal { IfOk result (λ first. IfSome first (λ i. IsFirstIllegal V.behaviour updates.now.list (world_of V.behaviour audit) entries.now i)) }
+{
+    let mut audit = audit;
+    for (i, entry) in entries.iter().enumerate() {
+        match turn(alloc, audit, updates.slice(), entry)? {
+            Some(next) => audit = next,
+            None => return Ok(Some(i as u64)),
+        }
+    }
+    Ok(None)
+}
+
 /// The number of the first entry that may not come, counted from 0, in a log that begins with this leader and has these
 /// updates; none where the log is legal (docs/DEFINITIONS.md). It runs the leader and replays each follower anew where an
 /// entry speaks of it. The one error is want of memory.
@@ -75,16 +97,10 @@ pub fn first_illegal<V: Version>(
     ensures legal { IfOk result (λ first. IfNone first (AreLegal V.behaviour updates.now.list (begun (V.behaviour.state lead)) entries.now)) }
     ensures illegal { IfOk result (λ first. IfSome first (λ i. IsFirstIllegal V.behaviour updates.now.list (begun (V.behaviour.state lead)) entries.now i)) }
 {
-    let mut audit = Audit {
+    let audit = Audit {
         lead,
         follower: None,
         status: Status::new(),
     };
-    for (i, entry) in entries.iter().enumerate() {
-        match turn(alloc, audit, updates.slice(), entry)? {
-            Some(next) => audit = next,
-            None => return Ok(Some(i as u64)),
-        }
-    }
-    Ok(None)
+    first_illegal_from(alloc, audit, updates, entries)
 }

@@ -8,10 +8,11 @@ ghost use Rattle.mv_version.specs.declared.event.Event.TheVariants as event;
 use super::*;
 use mv_calls::{Bytes, Call, Item, Or, OutOfMemory, Reply, Texts};
 use mv_history::{
-    Cause, Entry, How, Mark, Update, Updates, Why, counts_fit, followers_hear,
-    later_updates_are_unread, leads_by_itself, logs_end_once, logs_join, messages_are_settled,
-    no_byte_lost, orders_keep_the_rest, replays_join, spots_are_tied, turns_are_legal,
-    turns_send_little, verdicts_stay, worlds_have_a_shape,
+    Cause, Entry, How, Mark, Update, Updates, Why, accepted_rules_are_shaped, bases_follow,
+    counts_fit, followers_hear, judgements_may_come, later_updates_are_unread, leads_by_itself,
+    logs_end_once, logs_join, messages_are_settled, messages_make_the_follower, no_byte_lost,
+    orders_keep_the_rest, readings_stay, replays_join, spots_are_tied, steps_are_shown,
+    turns_are_legal, turns_send_little, verdicts_stay, worlds_have_a_shape,
 };
 use mv_orders::{OrderReply, Word};
 use mv_syntax::BornFault;
@@ -103,6 +104,7 @@ impl Small {
 
 #[test]
 fn the_laws_speak_of_a_version(_rt: HostRuntime) -> Result<(), Fail> {
+    accepted_rules_are_shaped::<Small>();
     replays_join::<Small>();
     verdicts_stay::<Small>();
     no_byte_lost::<Small>();
@@ -110,6 +112,11 @@ fn the_laws_speak_of_a_version(_rt: HostRuntime) -> Result<(), Fail> {
     counts_fit::<Small>();
     worlds_have_a_shape::<Small>();
     turns_are_legal::<Small>();
+    messages_make_the_follower::<Small>();
+    bases_follow::<Small>();
+    judgements_may_come::<Small>();
+    steps_are_shown::<Small>();
+    readings_stay::<Small>();
     Ok(())
 }
 

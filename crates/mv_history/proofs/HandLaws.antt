@@ -6,10 +6,10 @@ use Rattle.mv_calls.specs.declared.calls.Reply.{Reply}
 use Rattle.mv_feed.specs.declared.msg.Msg.{Msg}
 use Rattle.mv_feed.specs.declared.msg.Msg.TheVariants as msg
 use Rattle.mv_version.specs.Behaviour.{Behaviour}
-use Rattle.mv_history.specs.Followers.{Following, Reaches}
+use Rattle.mv_history.specs.Followers.{Following}
 use Rattle.mv_history.specs.Places.{Place, place_after, place_from}
 use Rattle.mv_history.specs.Ties.{hand_of, Ties, HandsPast, Waits}
-use Rattle.mv_history.specs.World.{World, IsReady, OfFollower, after_entry, after_entries, MayEnter, AreLegal, sends, heard_by, sent}
+use Rattle.mv_history.specs.World.{World, after_entry, after_entries, MayEnter, AreLegal, sends, heard_by, sent}
 use Rattle.mv_history.specs.declared.log.Entry.{Entry}
 use Rattle.mv_history.specs.declared.log.Entry.TheVariants as entry
 use Rattle.mv_history.specs.declared.log.Mark.TheVariants as mark
@@ -127,7 +127,7 @@ module _ {V : Type 0} (b : Behaviour V) (updates : List Update) where
               (waits_all w (e ∷ es) place [] legal ties (past early n h.0 handed, inl (h.0, refl)))
         ]
 
-    -- a hand-over that is ready over the prefix is ready over the whole while it is asked, and nothing was sent since
+    -- while the hand-over is asked the follower is that of the prefix, and nothing was sent since
     pub stands_whole : (w : World V) (place : Option (Place V)) (since : List (Msg V)) → Ties w place → Waits n early w.status.number place since → 0 < w.status.follower → hand_of w.status.asked ≡ Some n →
         (w.following ≡ Some early.follows) × (since ≡ [])
     stands_whole w place since ties waits alive asked =
@@ -137,9 +137,3 @@ module _ {V : Type 0} (b : Behaviour V) (updates : List Update) where
               (at.following ∙ ap (λ p. let o : Option (Following V) = Some p.follows in o) one, same.1))
           | inr passed ↦ absurd (let bad = passed at.at n at.is_at (sym at.hand ∙ asked) in omega (arith, bad))
         ]
-
-    pub ready_whole : (w : World V) (place : Option (Place V)) (since : List (Msg V)) (s : V) → Ties w place → Waits n early w.status.number place since → 0 < w.status.follower → hand_of w.status.asked ≡ Some n →
-        Reaches b early.follows s → IsReady b w
-    ready_whole w place since s ties waits alive asked reaches =
-        let whole = stands_whole w place since ties waits alive asked in
-        subst (λ o. OfFollower b o (λ f. (t : V) × Reaches b f t)) (sym whole.0) (s, reaches)

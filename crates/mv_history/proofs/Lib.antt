@@ -36,6 +36,12 @@ pub mod HandLaws
 pub mod ShapeLaws
 -- the entry of a turn may come (`turns_are_legal`)
 pub mod LeadLaws
+-- what the messages of a base say, and a base further on (`messages_make_the_follower`, `bases_follow`)
+pub mod BaseLaws
+-- the mark of a judgement may come (`judgements_may_come`)
+pub mod MarkLaws
+-- what a step of a follower gives up is shown (`steps_are_shown`, `readings_stay`)
+pub mod SpotLaws
 mod EarlyTexts
 mod ExtendsLaws
 mod Rows

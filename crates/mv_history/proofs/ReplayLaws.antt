@@ -84,3 +84,23 @@ module _ {V : Type 0} (b : Behaviour V) (ends : PointsEnd b) where
   pub past_passed : (s : V) → b.go s ≡ event.Point → past b (b.passed s) ≡ past b s
   past_passed s here =
       past_fuel (suc (b.left (b.passed s))) (b.left s) (b.passed s) (left_enough (b.passed s)) (passed_fewer s here) ∙ sym (ap (λ e. cond (is_point e) (past_in b (b.left s) (b.passed s)) s) here)
+
+  pub past_here : (s : V) → is_point (b.go s) ≡ false → past b s ≡ s
+  past_here s other = ap (λ t. cond t (past_in b (b.left s) (b.passed s)) s) other
+
+  -- past all points there is none
+  past_in_ends : (n : ℕ) (s : V) → points_left b s ≤ n → is_point (b.go (past_in b n s)) ≡ false
+  past_in_ends zero s enough = none (is_point (b.go s)) refl enough
+    where
+      none : (t : Bool) → is_point (b.go s) ≡ t → cond t (suc (b.left s)) 0 ≤ 0 → is_point (b.go s) ≡ false
+      none true is bad = absurd (omega (arith, bad))
+      none false is h = is
+  past_in_ends (suc n) s enough = on (past_in_ends n (b.passed s)) (is_point (b.go s)) refl enough
+    where
+      on : (points_left b (b.passed s) ≤ n → is_point (b.go (past_in b n (b.passed s))) ≡ false) → (t : Bool) → is_point (b.go s) ≡ t → cond t (suc (b.left s)) 0 ≤ suc n →
+          is_point (b.go (cond t (past_in b n (b.passed s)) s)) ≡ false
+      on rest true is one = let fewer = passed_fewer s (point_is _ is) in rest (omega (arith, fewer, one))
+      on rest false is one = is
+
+  pub past_ends : (s : V) → is_point (b.go (past b s)) ≡ false
+  past_ends s = past_in_ends (suc (b.left s)) s (left_enough s)

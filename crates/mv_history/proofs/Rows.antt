@@ -16,7 +16,12 @@ use Rattle.mv_orders.specs.declared.stage.Word.TheVariants as word
 use Rattle.mv_version.specs.Behaviour.{Behaviour}
 use Rattle.mv_version.specs.declared.event.Event.{Event}
 use Rattle.mv_version.specs.declared.event.Event.TheVariants as event
+use Rattle.mv_feed.specs.declared.msg.Msg.TheVariants as msg
+use Rattle.mv_orders.specs.declared.stage.Stage.TheVariants.{OldLeads, NewLeads}
 use Rattle.mv_history.specs.Answers.{none_word}
+use Rattle.mv_history.specs.Leads.{failed_mark, ready_mark}
+use Rattle.mv_history.specs.Places.{forked_place}
+use Rattle.mv_history.specs.Spots.{Spot, StepsTo, Moves, GivesUp, IsReadyFor, cleared_spot, may_carry, no_spot, spot_after, standing_spot}
 use Rattle.mv_history.specs.Rules.{no_rules_text, AreAccepted}
 use Rattle.mv_history.specs.World.{begun, AreLegal, IsFirstIllegal, outside}
 use Rattle.mv_history.specs.declared.log.Cause.TheVariants as cause
@@ -716,3 +721,101 @@ many_updates = refl
 -- and the 64th
 last_update : early_reply (record first_status { updates = 69; fresh = 63 }) (order.Update (codes "old") none_word none_word) ≡ None
 last_update = refl
+
+-- ## The work of a follower: its birth, a call that it matches, one that it doesn't, and a hand-over
+
+abbrev accept_item : Call × Reply
+accept_item = (call.Accept 3 0, reply.Fd 4)
+
+abbrev copied : Spot State
+copied = spot_after no_spot (msg.Fork 1 (0, 0) (codes "old") no_rules_text no_rules_text)
+
+-- forward rules, reverse rules, birth
+abbrev read_once : Spot State
+read_once = record copied { births = 2 }
+
+abbrev read_both : Spot State
+read_both = record copied { births = 1; keeps = Some (record { update = 1; files = files (codes "old") }) }
+
+abbrev newborn : Spot State
+newborn = record read_both { births = 0 }
+
+reads_forward : StepsTo server copied (Moves read_once)
+reads_forward = record { place = unwrap_or copied.place (forked_place 0 (0, 0) [] [] []); place_is = refl; by = inl ((no_rules_accepted (codes "old")).forward, refl) }
+
+reads_reverse : StepsTo server read_once (Moves read_both)
+reads_reverse = record { place = unwrap_or copied.place (forked_place 0 (0, 0) [] [] []); place_is = refl; by = inl ((no_rules_accepted (codes "old")).reverse, refl) }
+
+is_born : StepsTo server read_both (Moves newborn)
+is_born = record { place = unwrap_or copied.place (forked_place 0 (0, 0) [] [] []); place_is = refl; by = inl ((0, 0), refl, refl) }
+
+-- with nothing to match it becomes quiet, and takes a message
+abbrev resting : Spot State
+resting = record newborn { quiet = true }
+
+rests : StepsTo server newborn (Moves resting)
+rests = record { place = unwrap_or copied.place (forked_place 0 (0, 0) [] [] []); place_is = refl; by = record { matched = []; rest = []; items_are = refl; count = refl; reached = (0, 0); stands = refl; next_is = refl } }
+
+waits_before : may_carry newborn ≡ false
+waits_before = refl
+
+takes_then : may_carry resting ≡ true
+takes_then = refl
+
+abbrev told : Spot State
+told = spot_after resting (msg.Heard accept_item)
+
+decides_one : StepsTo server told (Moves (record told { decisions = 1 }))
+decides_one = record { place = unwrap_or told.place (forked_place 0 (0, 0) [] [] []); place_is = refl; by = record { matched = []; rest = []; items_are = refl; count = refl; reached = (0, 0); stands = refl; next_is = refl } }
+
+matches_one : StepsTo server (record told { decisions = 1 }) (Moves (record told { decisions = 1; matched = 1 }))
+matches_one = record {
+  place = unwrap_or told.place (forked_place 0 (0, 0) [] [] []);
+  place_is = refl;
+  by = record { matched = []; rest = accept_item ∷ []; items_are = refl; count = refl; reached = (0, 0); stands = refl; next_is = refl };
+}
+
+-- another call
+abbrev misled : Spot State
+misled = spot_after resting (msg.Heard (call.Read 4 64, reply.Bytes (codes "a")))
+
+gives_up : StepsTo server (record misled { decisions = 1 }) (GivesUp (cause.Mismatch 0 (call.Read 4 64) (event.Calls (call.Accept 3 0))))
+gives_up = record {
+  place = unwrap_or misled.place (forked_place 0 (0, 0) [] [] []);
+  place_is = refl;
+  by = record { matched = []; rest = (call.Read 4 64, reply.Bytes (codes "a")) ∷ []; items_are = refl; count = refl; reached = (0, 0); stands = refl; next_is = refl };
+}
+
+-- a hand-over behind the call
+abbrev handed : Spot State
+handed = spot_after (record told { decisions = 1; matched = 1; quiet = true }) (msg.Hand 5)
+
+ready_then : StepsTo server handed (IsReadyFor (0, 2) 5)
+ready_then = record {
+  place = unwrap_or handed.place (forked_place 0 (0, 0) [] [] []);
+  place_is = refl;
+  by = record { matched = accept_item ∷ []; rest = []; items_are = refl; count = refl; reached = (0, 2); stands = refl; next_is = refl };
+}
+
+-- a guest that led follows by the rules that are kept
+stands_then : spot_after (cleared_spot handed) (msg.Stand (0, 2)) ≡ standing_spot (Some (record { update = 1; files = files (codes "old") })) (0, 2)
+stands_then = refl
+
+skipped_without : spot_after no_spot (msg.Stand (0, 2)) ≡ no_spot {V = State}
+skipped_without = refl
+
+-- the judgements of the stages
+ready_of_old : ready_mark OldLeads (Some (record { why = why.Promote; n = 5 })) ≡ Some mark.Promote
+ready_of_old = refl
+
+ready_at_trap : ready_mark OldLeads (Some (record { why = why.Trap trap.Unreachable; n = 5 })) ≡ Some mark.Over
+ready_at_trap = refl
+
+ready_of_new : ready_mark NewLeads (Some (record { why = why.Back; n = 5 })) ≡ Some mark.Back
+ready_of_new = refl
+
+failed_old : failed_mark NewLeads cause.Memory ≡ mark.Dropped cause.Memory
+failed_old = refl
+
+failed_new : failed_mark OldLeads cause.Memory ≡ mark.Discard cause.Memory
+failed_new = refl

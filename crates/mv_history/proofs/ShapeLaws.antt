@@ -1,6 +1,6 @@
 -- Each entry that may come leaves a legal world in its shape.
-use Rattle.std.specs.Prelude.{◌≡◌, ℕ, ◌<◌, Bool, true, false, cond, Option, Some, None, List, [], ◌∷◌, refl, Result, Ok, Err}
-use Rattle.std.proofs.Common.{ap, arith, sym, subst}
+use Rattle.std.specs.Prelude.{◌≡◌, ◌≢◌, ℕ, ◌<◌, Bool, true, false, cond, Option, Some, None, List, [], ◌∷◌, refl, Result, Ok, Err}
+use Rattle.std.proofs.Common.{ap, arith, sym, subst, ◌∙◌, inl, inr}
 use Rattle.mv_calls.specs.declared.calls.Call.{Call}
 use Rattle.mv_calls.specs.declared.calls.Reply.{Reply}
 use Rattle.mv_orders.specs.declared.order.Order.{Order}
@@ -16,9 +16,9 @@ use Rattle.mv_orders.specs.declared.stage.Word.TheVariants as word
 use Rattle.mv_version.specs.Behaviour.{Behaviour}
 use Rattle.mv_history.specs.Answers.{Answers, IsReplyTo, IsReplyBy}
 use Rattle.mv_history.specs.Followers.{Base, Forked, Standing, Following, Reaches}
-use Rattle.mv_history.specs.Shapes.{WordFits, WantedFits, WhyFits, AskedFits, BaseFits, FollowerFits, Shaped}
+use Rattle.mv_history.specs.Shapes.{WordFits, WantedFits, WhyFits, AskedFits, BaseFits, FollowerFits, IsOver, Shaped}
 use Rattle.mv_history.specs.Statuses.{accepted, answered, early_reply, update_refusal, only_in, is_alone, is_old_leads, is_new_leads, word_leads, wanted_leads}
-use Rattle.mv_history.specs.World.{World, begun, also_hears, also_stands, after_entry, after_entries, MayEnter, AreLegal, OfFollower, sends}
+use Rattle.mv_history.specs.World.{World, begun, also_hears, also_stands, after_entry, after_entries, MayEnter, AreLegal, OfFollower}
 use Rattle.mv_history.specs.declared.log.Entry.{Entry}
 use Rattle.mv_history.specs.declared.log.Entry.TheVariants as entry
 use Rattle.mv_history.specs.declared.log.How.{How}
@@ -29,10 +29,9 @@ use Rattle.mv_history.specs.declared.status.AtPoint.TheVariants as at
 use Rattle.mv_history.specs.declared.status.Status.{Status}
 use Rattle.mv_history.specs.declared.status.Wanted.{Wanted}
 use Rattle.mv_history.specs.declared.updates.Update.{Update}
-use Rattle.mv_history.specs.Places.{Place, place_from}
-use Rattle.mv_history.specs.Ties.{Ties}
-use Rattle.mv_history.proofs.OrderLaws.{OfSome, refuses, goes_on, order_keeps}
-use Rattle.mv_history.proofs.TiesLaws.{forks_wants, ties_once}
+use Rattle.mv_history.specs.Ties.{update_wanted}
+use Rattle.mv_history.proofs.OrderLaws.{OfSome, refuses, goes_on, order_keeps, order_wants}
+use Rattle.mv_history.proofs.TiesLaws.{forks_wants, none_wanted}
 
 -- ## An order is accepted in its stage
 
@@ -135,8 +134,19 @@ module _ {V : Type 0} (b : Behaviour V) (updates : List Update) where
   over_alone : (A : Type 0) (x : How) → Some x ≡ None → A
   over_alone A x bad = absurd (let h : Some x ≡ None = bad in cc)
 
+  -- the log goes on
+  still : (w : World V) → w.status.ended ≡ None → w.status.ended ≢ None → IsOver w
+  still w runs over = absurd (over runs)
+
   follower_same : (s t : Stage) (n m : ℕ) (f : Option (Following V)) → t ≡ s → m ≡ n → FollowerFits s n f → FollowerFits t m f
   follower_same s t n m f stage number fits = subst (λ x. FollowerFits x m f) (sym stage) (subst (λ x. FollowerFits s x f) (sym number) fits)
+
+  order_numbered : (w : World V) (text : List ℕ) (r : OrderReply) → MayEnter b updates w (entry.Order text r) → Shaped w → (u : ℕ) → update_wanted (answered w.status r).wanted ≡ Some u → (0 < u) × (u ≡ (answered w.status r).updates)
+  order_numbered w text r may shaped u h =
+      elim (order_wants w.status updates text r u may.1 h) [
+        | inl new ↦ (omega (arith, new.0), new.0 ∙ sym new.1)
+        | inr old ↦ ((shaped.numbered u old.0).0, (shaped.numbered u old.0).1 ∙ sym old.1)
+      ]
 
   order_shaped : (w : World V) (text : List ℕ) (r : OrderReply) → MayEnter b updates w (entry.Order text r) → Shaped w → Shaped (after_entry b updates w (entry.Order text r))
   order_shaped w text r may shaped =
@@ -146,6 +156,8 @@ module _ {V : Type 0} (b : Behaviour V) (updates : List Update) where
         follower = λ _. follower_same w.status.stage (answered w.status r).stage w.status.follower (answered w.status r).follower w.following keeps.stage keeps.follower (shaped.follower runs);
         wanted = λ _. subst (λ s. WantedFits s (answered w.status r).wanted) (sym keeps.stage) (answered_fits w.status updates text r may.1 (shaped.wanted runs));
         asked = λ _. subst (λ s. AskedFits s (answered w.status r).asked) (sym keeps.stage) (subst (λ a. AskedFits w.status.stage a) (sym keeps.asked) (shaped.asked runs));
+        numbered = order_numbered w text r may shaped;
+        over = still (after_entry b updates w (entry.Order text r)) (keeps.ended ∙ runs);
       }
 
   promote_shaped : (w : World V) → MayEnter b updates w (entry.Mark mark.Promote) → Shaped w → Shaped (after_entry b updates w (entry.Mark mark.Promote))
@@ -153,31 +165,60 @@ module _ {V : Type 0} (b : Behaviour V) (updates : List Update) where
     follower = λ _. stands_fits w.status.follower w.lead w.following may.3 (subst (λ s. FollowerFits s w.status.follower w.following) may.1 (shaped.follower may.0));
     wanted = λ _. tt;
     asked = λ _. tt;
+    numbered = λ u bad. none_wanted _ u bad;
+    over = still (after_entry b updates w (entry.Mark mark.Promote)) may.0;
   }
 
-  pub shaped_once : (w : World V) (place : Option (Place V)) (e : Entry) → MayEnter b updates w e → Ties w place → Shaped w → Shaped (after_entry b updates w e)
-  shaped_once w place (entry.Call item) may ties shaped =
-      record { follower = λ h. heard_fits w.status.stage w.status.follower w.following item (shaped.follower h); wanted = shaped.wanted; asked = shaped.asked }
-  shaped_once w place entry.Point may ties shaped = record { follower = shaped.follower; wanted = shaped.wanted; asked = shaped.asked }
-  shaped_once w place (entry.Order text r) may ties shaped = order_shaped w text r may shaped
-  shaped_once w place (entry.Mark (mark.Fork u)) may ties shaped =
-      let some = ties.some u (forks_wants w.status.wanted w.status.stage u may.1) in
-      record { follower = λ _. (some.0, tt); wanted = λ _. tt; asked = λ _. tt }
-  shaped_once w place (entry.Mark (mark.NoCopy u)) may ties shaped = record { follower = shaped.follower; wanted = λ _. tt; asked = λ _. tt }
-  shaped_once w place (entry.Mark (mark.Hand x)) may ties shaped = record { follower = shaped.follower; wanted = shaped.wanted; asked = λ _. hand_fits w x may shaped }
-  shaped_once w place (entry.Mark mark.Promote) may ties shaped = promote_shaped w may shaped
-  shaped_once w place (entry.Mark mark.Over) may ties shaped = record { follower = λ _. (refl, refl); wanted = λ _. tt; asked = λ _. tt }
-  shaped_once w place (entry.Mark mark.Back) may ties shaped = record { follower = λ _. (refl, refl); wanted = λ _. tt; asked = λ _. tt }
-  shaped_once w place (entry.Mark mark.Finish) may ties shaped = record { follower = λ _. (refl, refl); wanted = λ _. tt; asked = λ _. tt }
-  shaped_once w place (entry.Mark (mark.Discard x)) may ties shaped = record { follower = λ _. (refl, refl); wanted = λ _. tt; asked = λ _. tt }
-  shaped_once w place (entry.Mark (mark.Dropped x)) may ties shaped = record { follower = λ _. (refl, refl); wanted = λ _. tt; asked = λ _. tt }
-  shaped_once w place (entry.Mark (mark.End x)) may ties shaped =
-      record { follower = λ bad. over_alone _ x bad; wanted = λ bad. over_alone _ x bad; asked = λ bad. over_alone _ x bad }
+  pub shaped_once : (w : World V) (e : Entry) → MayEnter b updates w e → Shaped w → Shaped (after_entry b updates w e)
+  shaped_once w (entry.Call item) may shaped = record {
+    follower = λ h. heard_fits w.status.stage w.status.follower w.following item (shaped.follower h);
+    wanted = shaped.wanted;
+    asked = shaped.asked;
+    numbered = shaped.numbered;
+    over = still (after_entry b updates w (entry.Call item)) may.0.is_open.runs;
+  }
+  shaped_once w entry.Point may shaped = record { follower = shaped.follower; wanted = shaped.wanted; asked = shaped.asked; numbered = shaped.numbered; over = still (after_entry b updates w entry.Point) may.0.is_open.runs }
+  shaped_once w (entry.Order text r) may shaped = order_shaped w text r may shaped
+  shaped_once w (entry.Mark (mark.Fork u)) may shaped =
+      let some = shaped.numbered u (forks_wants w.status.wanted w.status.stage u may.1) in
+      record { follower = λ _. (some.0, tt); wanted = λ _. tt; asked = λ _. tt; numbered = λ n bad. none_wanted _ n bad; over = still (after_entry b updates w (entry.Mark (mark.Fork u))) may.0.is_open.runs }
+  shaped_once w (entry.Mark (mark.NoCopy u)) may shaped =
+      record { follower = shaped.follower; wanted = λ _. tt; asked = λ _. tt; numbered = λ n bad. none_wanted _ n bad; over = still (after_entry b updates w (entry.Mark (mark.NoCopy u))) may.0.is_open.runs }
+  shaped_once w (entry.Mark (mark.Hand x)) may shaped =
+      record { follower = shaped.follower; wanted = shaped.wanted; asked = λ _. hand_fits w x may shaped; numbered = shaped.numbered; over = still (after_entry b updates w (entry.Mark (mark.Hand x))) may.0.is_open.runs }
+  shaped_once w (entry.Mark mark.Promote) may shaped = promote_shaped w may shaped
+  shaped_once w (entry.Mark mark.Over) may shaped =
+      record { follower = λ _. (refl, refl); wanted = λ _. tt; asked = λ _. tt; numbered = λ n bad. none_wanted _ n bad; over = still (after_entry b updates w (entry.Mark mark.Over)) may.0 }
+  shaped_once w (entry.Mark mark.Back) may shaped =
+      record { follower = λ _. (refl, refl); wanted = λ _. tt; asked = λ _. tt; numbered = λ n bad. none_wanted _ n bad; over = still (after_entry b updates w (entry.Mark mark.Back)) may.0 }
+  shaped_once w (entry.Mark mark.Finish) may shaped =
+      record { follower = λ _. (refl, refl); wanted = λ _. tt; asked = λ _. tt; numbered = λ n bad. none_wanted _ n bad; over = still (after_entry b updates w (entry.Mark mark.Finish)) may.0.runs }
+  shaped_once w (entry.Mark (mark.Discard x)) may shaped =
+      record { follower = λ _. (refl, refl); wanted = λ _. tt; asked = λ _. tt; numbered = λ n bad. none_wanted _ n bad; over = still (after_entry b updates w (entry.Mark (mark.Discard x))) may.0 }
+  shaped_once w (entry.Mark (mark.Dropped x)) may shaped =
+      record { follower = λ _. (refl, refl); wanted = λ _. tt; asked = λ _. tt; numbered = λ n bad. none_wanted _ n bad; over = still (after_entry b updates w (entry.Mark (mark.Dropped x))) may.0 }
+  shaped_once w (entry.Mark (mark.End x)) may shaped = record {
+    follower = λ bad. over_alone _ x bad;
+    wanted = λ bad. over_alone _ x bad;
+    asked = λ bad. over_alone _ x bad;
+    numbered = shaped.numbered;
+    over = λ _. record { nobody = refl; alone = refl; unasked = refl };
+  }
 
-  pub legal_shaped : (w : World V) (es : List Entry) (place : Option (Place V)) → AreLegal b updates w es → Ties w place → Shaped w → Shaped (after_entries b updates w es)
-  legal_shaped w [] place legal ties shaped = shaped
-  legal_shaped w (e ∷ es) place legal ties shaped =
-      legal_shaped (after_entry b updates w e) es (place_from place (sends updates w e)) legal.1 (ties_once b updates w place e legal.0 ties) (shaped_once w place e legal.0 ties shaped)
+  pub legal_shaped : (w : World V) (es : List Entry) → AreLegal b updates w es → Shaped w → Shaped (after_entries b updates w es)
+  legal_shaped w [] legal shaped = shaped
+  legal_shaped w (e ∷ es) legal shaped = legal_shaped (after_entry b updates w e) es legal.1 (shaped_once w e legal.0 shaped)
 
 pub first_shaped : {V : Type 0} (first : V) → Shaped (begun first)
-first_shaped first = record { follower = λ _. (refl, refl); wanted = λ _. tt; asked = λ _. tt }
+first_shaped first = record { follower = λ _. (refl, refl); wanted = λ _. tt; asked = λ _. tt; numbered = λ u bad. none_wanted _ u bad; over = λ bad. absurd (bad refl) }
+
+is_over : (x : How) → Some x ≡ None → ⊥
+is_over x bad = let h : Some x ≡ None = bad in cc
+
+over_runs : {V : Type 0} (w : World V) (x : Option How) → w.status.ended ≡ x → Shaped w → 0 < w.status.follower → w.status.ended ≡ None
+over_runs w None is shaped alive = is
+over_runs w (Some x) is shaped alive = absurd (let none = (shaped.over (λ runs. is_over x (sym is ∙ runs))).nobody in omega (arith, none, alive))
+
+-- a follower is there only while the log goes on
+pub follower_runs : {V : Type 0} (w : World V) → Shaped w → 0 < w.status.follower → w.status.ended ≡ None
+follower_runs w shaped alive = over_runs w w.status.ended refl shaped alive

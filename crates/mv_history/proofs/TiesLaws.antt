@@ -47,7 +47,7 @@ pub zero_or_more : (n : ℕ) → (n ≡ 0) ⊎ (0 < n)
 zero_or_more zero = inl refl
 zero_or_more (suc n) = inr (omega arith)
 
-none_wanted : (A : Type 0) (u : ℕ) → None ≡ Some u → A
+pub none_wanted : (A : Type 0) (u : ℕ) → None ≡ Some u → A
 none_wanted A u bad = absurd (let h : None ≡ Some u = bad in cc)
 
 -- an entry that touches no follower

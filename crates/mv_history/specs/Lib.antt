@@ -1,11 +1,14 @@
 pub mod Answers
+pub mod Bases
 pub mod Ends
 pub mod Files
 pub mod Followers
+pub mod Judged
 pub mod Leads
 pub mod Linked
 pub mod Payload
 pub mod Places
+pub mod Readings
 pub mod Replay
 pub mod Roomy
 pub mod Rules

@@ -10,7 +10,9 @@ ghost use Rattle.mv_version.specs.declared.event.Event.{Event as event};
 ghost use Rattle.mv_history.specs.declared.log.Cause.{Cause as cause};
 ghost use Rattle.mv_history.specs.declared.log.Entry.{Entry as entry};
 ghost use Rattle.mv_history.specs.declared.updates.Update.{Update as update};
+ghost use Rattle.mv_history.specs.Bases.{IsBase};
 ghost use Rattle.mv_history.specs.Followers.{Following, FollowerShows, Reaches, given_to, hears_by};
+ghost use Rattle.mv_history.specs.Judged.{IsReadyAs};
 ghost use Rattle.mv_history.specs.Leads.{Chosen, OkLine, lead_entry};
 ghost use Rattle.mv_history.specs.Places.{Place, is_handed, place_of};
 ghost use Rattle.mv_history.specs.Replay.{Fails, Stands, replay};
@@ -19,7 +21,7 @@ ghost use Rattle.mv_history.specs.Shapes.{Shaped};
 ghost use Rattle.mv_history.specs.Small.{IsSmall};
 ghost use Rattle.mv_history.specs.Stretches.{KeepsFollower, KeepsLeader, MarksAre, run_of};
 ghost use Rattle.mv_history.specs.Ties.{hand_of, with_more};
-ghost use Rattle.mv_history.specs.World.{AreLegal, IsReady, MayEnter, Shows, World, after_entries, begun, outside, sent};
+ghost use Rattle.mv_history.specs.World.{AreLegal, MayEnter, Shows, World, after_entries, begun, outside, sent};
 
 use mv_version::Version;
 
@@ -30,17 +32,18 @@ pub fn replays_join<V: Version>()
     ensures fails { (k j : ℕ) (s : V) (xs ys : List (call × reply)) (want : call) (met : event) → replay V.behaviour k s xs ≡ Fails j want met → replay V.behaviour k s (xs ++ ys) ≡ Fails j want met }
 {}
 
-/// What is shown of a follower over a prefix of what a legal log sent is shown over all of it while that follower
-/// stands. A hand-over that is ready over a prefix that ends with it is ready over all while it is asked, and nothing was
-/// sent since.
+/// From a base: what is shown of a follower over a prefix of the messages, of those before the base and of those that a legal log
+/// sent, is shown over all of them while that follower stands. A hand-over that is ready over a prefix that ends with it is
+/// ready over all while it is asked, and nothing was sent since: the world's follower is that of the prefix, and reaches the
+/// same state.
 pub fn verdicts_stay<V: Version>()
-    ensures cause { (updates : List update) (first : V) (es : List entry) (prefix rest : List (msg V)) (place : Place V) (why : cause) → AreLegal V.behaviour updates (begun first) es →
-        sent V.behaviour updates (begun first) es ≡ prefix ++ rest → place_of prefix ≡ Some place → 0 < place.update → place.update ≡ (after_entries V.behaviour updates (begun first) es).status.follower →
-        FollowerShows V.behaviour (is_handed place) place.follows why → Shows V.behaviour (after_entries V.behaviour updates (begun first) es) why }
-    ensures ready { (updates : List update) (first : V) (es : List entry) (prefix rest : List (msg V)) (place : Place V) (n : ℕ) (s : V) → AreLegal V.behaviour updates (begun first) es →
-        sent V.behaviour updates (begun first) es ≡ prefix ++ rest → place_of prefix ≡ Some place → place.hand ≡ Some n → 0 < (after_entries V.behaviour updates (begun first) es).status.follower →
-        hand_of (after_entries V.behaviour updates (begun first) es).status.asked ≡ Some n → Reaches V.behaviour place.follows s →
-        IsReady V.behaviour (after_entries V.behaviour updates (begun first) es) × (rest ≡ []) }
+    ensures cause { (updates : List update) (base : World V) (before : List (msg V)) (es : List entry) (prefix rest : List (msg V)) (place : Place V) (why : cause) → IsBase base before → AreLegal V.behaviour updates base es →
+        before ++ sent V.behaviour updates base es ≡ prefix ++ rest → place_of prefix ≡ Some place → 0 < place.update → place.update ≡ (after_entries V.behaviour updates base es).status.follower →
+        FollowerShows V.behaviour (is_handed place) place.follows why → Shows V.behaviour (after_entries V.behaviour updates base es) why }
+    ensures ready { (updates : List update) (base : World V) (before : List (msg V)) (es : List entry) (prefix rest : List (msg V)) (place : Place V) (n : ℕ) (s : V) → IsBase base before → AreLegal V.behaviour updates base es →
+        before ++ sent V.behaviour updates base es ≡ prefix ++ rest → place_of prefix ≡ Some place → place.hand ≡ Some n → 0 < (after_entries V.behaviour updates base es).status.follower →
+        hand_of (after_entries V.behaviour updates base es).status.asked ≡ Some n → Reaches V.behaviour place.follows s →
+        IsReadyAs V.behaviour (after_entries V.behaviour updates base es) place.follows s × (rest ≡ []) }
 {}
 
 /// At a promotion, an over or a back the bytes that the new leader was given of each descriptor in its replay are those
@@ -65,25 +68,30 @@ pub fn leads_by_itself<V: Version>()
     ensures lead { (updates : List update) (w : World V) (es : List entry) → MarksAre KeepsLeader es → (after_entries V.behaviour updates w es).lead ≡ run_of V.behaviour w.lead es }
 {}
 
-/// The counts of a legal log fit their types, with place for the marks of a judgement while it goes on.
+/// The counts of a legal log fit their types, with place for the marks of a judgement while it goes on. From a base on it has at
+/// most 999,993 entries, and accepts at most 64 updates.
 pub fn counts_fit<V: Version>()
     ensures small { (updates : List update) (w : World V) (es : List entry) → AreLegal V.behaviour updates w es → IsSmall w.status → IsSmall (after_entries V.behaviour updates w es).status }
     ensures first { (first : V) → IsSmall (begun first).status }
     ensures number { (updates : List update) (w : World V) (es : List entry) → (after_entries V.behaviour updates w es).status.number ≡ w.status.number + length es }
     ensures since { (updates : List update) (w : World V) (es : List entry) → (after_entries V.behaviour updates w es).status.since ≡ w.status.since + length es }
+    ensures updates { (updates : List update) (w : World V) (es : List entry) → (after_entries V.behaviour updates w es).status.updates + w.status.fresh ≡ w.status.updates + (after_entries V.behaviour updates w es).status.fresh }
+    ensures entries { (updates : List update) (w : World V) (es : List entry) → AreLegal V.behaviour updates w es → IsSmall w.status → w.status.since + length es ≤ 999993 }
+    ensures accepted { (updates : List update) (w : World V) (es : List entry) → AreLegal V.behaviour updates w es → IsSmall w.status → (after_entries V.behaviour updates w es).status.updates + w.status.fresh ≤ w.status.updates + 64 }
 {}
 
-/// While a legal log goes on, a follower is there exactly beside a leader: a new version beside the old one that leads, or the
-/// old one as it stood beside the new one that leads. What is wanted or asked is what this stage allows.
+/// From any world of this shape: while a legal log goes on, a follower is there exactly beside a leader: a new version beside
+/// the old one that leads, or the old one as it stood beside the new one that leads. What is wanted or asked is what this stage
+/// allows. Once the log has ended nobody follows and nothing is asked.
 pub fn worlds_have_a_shape<V: Version>()
-    ensures shaped { (updates : List update) (first : V) (es : List entry) → AreLegal V.behaviour updates (begun first) es → Shaped (after_entries V.behaviour updates (begun first) es) }
+    ensures shaped { (updates : List update) (w : World V) (es : List entry) → AreLegal V.behaviour updates w es → Shaped w → Shaped (after_entries V.behaviour updates w es) }
+    ensures first { (first : V) → Shaped (begun first) }
+    ensures runs { (w : World V) → Shaped w → 0 < w.status.follower → w.status.ended ≡ None }
 {}
 
-/// The entry that a turn of the leader makes may come, whatever others choose in it, where the log goes on and no hand-over
-/// is asked.
+/// The entry that a turn of the leader makes may come in any world of a legal shape, whatever others choose in it, where the log
+/// goes on and no hand-over is asked.
 pub fn turns_are_legal<V: Version>()
-    ensures legal { (updates : List update) (first : V) (es : List entry) (chosen : Chosen) → AreLegal V.behaviour updates (begun first) es →
-        (after_entries V.behaviour updates (begun first) es).status.ended ≡ None → (after_entries V.behaviour updates (begun first) es).status.asked ≡ None →
-        OkLine (after_entries V.behaviour updates (begun first) es).status updates chosen.line →
-        MayEnter V.behaviour updates (after_entries V.behaviour updates (begun first) es) (lead_entry V.behaviour (after_entries V.behaviour updates (begun first) es).lead (after_entries V.behaviour updates (begun first) es).status chosen) }
+    ensures legal { (updates : List update) (w : World V) (chosen : Chosen) → Shaped w → w.status.ended ≡ None → w.status.asked ≡ None → OkLine w.status updates chosen.line →
+        MayEnter V.behaviour updates w (lead_entry V.behaviour w.lead w.status chosen) }
 {}

@@ -1,16 +1,16 @@
 use Rattle.std.proofs.lemmas.List.{drop_more}
 use Rattle.std.proofs.Common.{rules, get_or, sym, ap, ◌∙◌, ◌≡◌, ◌+◌, ◌∷◌, List, drop, subst, IfNone, IfSome}
 use Rattle.mv_audit.specs.Audit.{world_of}
-use Rattle.mv_history.specs.World.{MayEnter, after_entry, begun}
+use Rattle.mv_history.specs.World.{MayEnter, after_entry}
 use Rattle.mv_history.specs.declared.log.Entry.{Entry}
 use Rattle.mv_audit.proofs.FoldLaws.{IsFolded, at_none, at_some, folded_bad, folded_more}
-use Rattle.mv_audit.proofs.fold.first_illegal.Goals as goal
+use Rattle.mv_audit.proofs.fold.first_illegal_from.Goals as goal
 
 pub returns-in-None-clause-illegal : goal.returns-in-None-clause-illegal
 returns-in-None-clause-illegal g c =
     let b = g.V.Version.behaviour in
     let e = c.index-entries-i.result in
-    let first = begun (b.state c.args.lead) in
+    let first = world_of b c.args.audit in
     let w = world_of b c.loop-i.audit in
     let updates = c.args.updates.now.list in
     let got : get_or c.args.entries.now c.loop-i.i e ≡ e = sym c.index-entries-i.is in
@@ -24,7 +24,7 @@ pub loop-i-preserved : goal.loop-i-preserved
 loop-i-preserved g c =
     let b = g.V.Version.behaviour in
     let e = c.index-entries-i.result in
-    let first = begun (b.state c.args.lead) in
+    let first = world_of b c.args.audit in
     let w = world_of b c.loop-i.audit in
     let updates = c.args.updates.now.list in
     let got : get_or c.args.entries.now c.loop-i.i e ≡ e = sym c.index-entries-i.is in
