@@ -9,18 +9,16 @@ use Rattle.mv_orders.specs.declared.reply.OrderReply.{OrderReply}
 use Rattle.mv_version.specs.Behaviour.{Behaviour}
 use Rattle.mv_history.specs.Bases.{ForksUpTo, HandsBelow, IsBase}
 use Rattle.mv_history.specs.Places.{Place, forked_place, place_after, place_from, place_of}
-use Rattle.mv_history.specs.Statuses.{answered}
 use Rattle.mv_history.specs.Ties.{hand_of, update_wanted, HandsPast, Ties}
 use Rattle.mv_history.specs.World.{World, begun, after_entry, after_entries, MayEnter, AreLegal, sends, heard_by, sent}
 use Rattle.mv_history.specs.declared.log.Entry.{Entry}
 use Rattle.mv_history.specs.declared.log.Entry.TheVariants as entry
 use Rattle.mv_history.specs.declared.log.Mark.TheVariants as mark
-use Rattle.mv_history.specs.declared.status.Asked.{Asked}
 use Rattle.mv_history.specs.declared.updates.Update.{Update}
 use Rattle.mv_history.proofs.ExtendsLaws.{sends_few}
 use Rattle.mv_history.proofs.OrderLaws.{order_keeps, order_wants}
 use Rattle.mv_history.proofs.TiesLaws.{forks_wants, none_wanted, place_from-append, ties_all, ties_once}
-use Rattle.mv_history.proofs.WorldLaws.{entry_rises, number-length, updates_more}
+use Rattle.mv_history.proofs.WorldLaws.{number-length, updates_more}
 
 hand_is : (number m n : ℕ) → Some n ≡ Some m → n < number → m < number
 hand_is number m n is h = let same : n ≡ m = (let e : Some n ≡ Some m = is in cc) in omega (arith, same, h)

@@ -1,5 +1,5 @@
 -- The mark of a judgement may come.
-use Rattle.std.specs.Prelude.{◌≡◌, ℕ, zero, suc, ◌≤◌, ◌<◌, Bool, true, false, cond, nat_lt, ◌&&◌, Option, Some, None, List, [], ◌∷◌, length, refl}
+use Rattle.std.specs.Prelude.{◌≡◌, ℕ, zero, suc, Bool, true, false, cond, nat_lt, ◌&&◌, Option, Some, None, List, [], refl}
 use Rattle.std.proofs.Common.{ap, arith, sym, subst, ◌∙◌, inl, inr}
 use Rattle.std.proofs.lemmas.Bool.Decides.{nat_tests}
 use Rattle.mv_calls.specs.declared.calls.Call.{Call}
@@ -11,16 +11,14 @@ use Rattle.mv_orders.specs.declared.stage.Stage.TheVariants.{OldAlone, OldLeads,
 use Rattle.mv_version.specs.Behaviour.{Behaviour}
 use Rattle.mv_version.specs.declared.event.Event.{Event}
 use Rattle.mv_version.specs.declared.event.Event.TheVariants as event
-use Rattle.mv_history.specs.Followers.{Base, Forked, Standing, Following, Reaches, replayed}
+use Rattle.mv_history.specs.Followers.{Base, Forked, Standing, Following, Reaches}
 use Rattle.mv_history.specs.Judged.{IsReadyAs}
-use Rattle.mv_history.specs.Leads.{Chosen, lead_entry, urgent_entry, line_entry, event_entry, point_entry, fork_entry, trap_entry, call_entry, is_calm, asks_line, point_needs_room, event_needs_room, line_needs_room, needs_room, failed_mark, handed_mark, ready_by, ready_mark}
-use Rattle.mv_history.specs.Replay.{Stands}
+use Rattle.mv_history.specs.Leads.{Chosen, lead_entry, urgent_entry, line_entry, event_entry, point_entry, fork_entry, trap_entry, call_entry, is_calm, point_needs_room, event_needs_room, line_needs_room, needs_room, failed_mark, handed_mark, ready_by, ready_mark}
 use Rattle.mv_history.specs.Shapes.{AskedFits, WhyFits, BaseFits, FollowerFits, Shaped}
 use Rattle.mv_history.specs.Statuses.{is_within, point_leads, urgent_of}
 use Rattle.mv_history.specs.World.{World, IsReady, MayMark, OfFollower, Shows, after_entry, lead_marked, reached_or, stood_or, sends, heard_by}
 use Rattle.mv_history.specs.declared.log.Cause.{Cause}
 use Rattle.mv_history.specs.declared.log.Cause.TheVariants as cause
-use Rattle.mv_history.specs.declared.log.Entry.{Entry}
 use Rattle.mv_history.specs.declared.log.Entry.TheVariants as entry
 use Rattle.mv_history.specs.declared.log.How.{How}
 use Rattle.mv_history.specs.declared.log.How.TheVariants as how
@@ -31,7 +29,6 @@ use Rattle.mv_history.specs.declared.log.Why.TheVariants as why
 use Rattle.mv_history.specs.declared.status.Asked.{Asked}
 use Rattle.mv_history.specs.declared.status.AtPoint.{AtPoint}
 use Rattle.mv_history.specs.declared.status.AtPoint.TheVariants as at
-use Rattle.mv_history.specs.declared.status.Status.{Status}
 use Rattle.mv_history.specs.declared.status.Urgent.{Urgent}
 use Rattle.mv_history.specs.declared.status.Urgent.TheVariants as urgent
 use Rattle.mv_history.specs.declared.updates.Update.{Update}

@@ -15,12 +15,12 @@ use Rattle.mv_syntax.specs.declared.fault.BornFault.{BornFault}
 use Rattle.mv_version.specs.Behaviour.{Behaviour, PointsEnd}
 use Rattle.mv_version.specs.declared.event.Event.{Event}
 use Rattle.mv_version.specs.declared.event.Event.TheVariants as event
-use Rattle.mv_history.specs.Followers.{Base, Forked, Standing, Following, Reaches, FollowerShows, begin, hears_by, is_forked, replayed, replayed_from, rewritten_by}
+use Rattle.mv_history.specs.Followers.{Base, Following, Reaches, FollowerShows, begin, hears_by, is_forked, replayed, replayed_from, rewritten_by}
 use Rattle.mv_history.specs.Places.{Place, forked_place, is_handed, place_after}
 use Rattle.mv_history.specs.Readings.{HasRead}
 use Rattle.mv_history.specs.Replay.{Replayed, Stands, Fails, Unborn, event_fits, is_point, past, replay}
 use Rattle.mv_history.specs.Rules.{AreAccepted, IsAccepted, IsRefused}
-use Rattle.mv_history.specs.Spots.{BirthStep, GivesUp, IsBorn, IsReadyFor, Kept, Matches, Moves, Next, NextAt, ReadsFile, Spot, StepsTo, cleared_spot, decided_next, failure, groups_at, groups_by, handed_next, item_next, items_at, may_carry, may_carry_at, no_spot, spot_after, standing_spot}
+use Rattle.mv_history.specs.Spots.{GivesUp, IsBorn, IsReadyFor, Kept, Matches, Moves, Next, NextAt, ReadsFile, Spot, StepsTo, cleared_spot, decided_next, failure, groups_at, groups_by, handed_next, item_next, items_at, may_carry, may_carry_at, no_spot, spot_after, standing_spot}
 use Rattle.mv_history.specs.declared.log.Cause.{Cause}
 use Rattle.mv_history.specs.declared.log.Cause.TheVariants as cause
 use Rattle.mv_history.specs.declared.log.Side.{Side}

@@ -1,10 +1,10 @@
 -- The laws over whole logs from a base on.
-use Rattle.std.specs.Prelude.{◌≡◌, ℕ, ◌<◌, Option, Some, None, List, [], ◌++◌, refl}
-use Rattle.std.proofs.Common.{ap, arith, sym, subst, ◌∙◌, inl, inr}
+use Rattle.std.specs.Prelude.{◌≡◌, ℕ, ◌<◌, Some, None, List, [], ◌++◌}
+use Rattle.std.proofs.Common.{ap, arith, sym, ◌∙◌, inl, inr}
 use Rattle.mv_feed.specs.declared.msg.Msg.{Msg}
 use Rattle.mv_version.specs.Behaviour.{Behaviour}
 use Rattle.mv_history.specs.Bases.{IsBase}
-use Rattle.mv_history.specs.Followers.{Following, FollowerShows, Reaches}
+use Rattle.mv_history.specs.Followers.{FollowerShows, Reaches}
 use Rattle.mv_history.specs.Judged.{IsReadyAs}
 use Rattle.mv_history.specs.Places.{Place, place_from, place_of, is_handed}
 use Rattle.mv_history.specs.Small.{IsSmall}
@@ -37,10 +37,10 @@ module _ {V : Type 0} (b : Behaviour V) (updates : List Update) where
   cause_from base before es prefix rest place c is_base legal same is alive follower shows =
       elim (splits before (sent b updates base es) prefix rest same) [
         | inl s ↦ (
-          let first = base_ties base before is_base in
-          let ties = ties_all b updates base es (place_of before) legal first in
-          let ext = prefix_extends b updates place base es (place_of before) s.0 rest legal first s.2 (place_behind before s.0 prefix place s.1 is) in
-          shows_whole b updates place (after_entries b updates base es) _ c ties ext alive follower shows)
+            let first = base_ties base before is_base in
+            let ties = ties_all b updates base es (place_of before) legal first in
+            let ext = prefix_extends b updates place base es (place_of before) s.0 rest legal first s.2 (place_behind before s.0 prefix place s.1 is) in
+            shows_whole b updates place (after_entries b updates base es) _ c ties ext alive follower shows)
         | inr s ↦ absurd (not_before b updates base before es prefix s.0 place is_base legal s.1 is alive follower)
       ]
 
@@ -58,10 +58,10 @@ module _ {V : Type 0} (b : Behaviour V) (updates : List Update) where
   hand_from base before es prefix rest place n is_base legal same is handed alive asked =
       elim (splits before (sent b updates base es) prefix rest same) [
         | inl s ↦ (
-          let first = base_ties base before is_base in
-          let ties = ties_all b updates base es (place_of before) legal first in
-          let waits = prefix_waits b updates n place handed base es (place_of before) s.0 rest legal first (hands_past base.status.number before is_base.hands) s.2 (place_behind before s.0 prefix place s.1 is) in
-          stands_whole b updates n place handed (after_entries b updates base es) _ rest ties waits alive asked)
+            let first = base_ties base before is_base in
+            let ties = ties_all b updates base es (place_of before) legal first in
+            let waits = prefix_waits b updates n place handed base es (place_of before) s.0 rest legal first (hands_past base.status.number before is_base.hands) s.2 (place_behind before s.0 prefix place s.1 is) in
+            stands_whole b updates n place handed (after_entries b updates base es) _ rest ties waits alive asked)
         | inr s ↦ absurd (not_asked_before b updates base before es prefix s.0 place n is_base s.1 is handed asked)
       ]
 

@@ -1,5 +1,5 @@
 -- What a follower has read of the rules files of its base, by how far its birth is.
-use Rattle.std.specs.Prelude.{◌≡◌, ℕ, ◌<◌, ◌≤◌, Some}
+use Rattle.std.specs.Prelude.{◌≡◌, ◌<◌, ◌≤◌, Some}
 use Rattle.mv_history.specs.Followers.{is_forked}
 use Rattle.mv_history.specs.Places.{Place}
 use Rattle.mv_history.specs.Rules.{AreAccepted, IsAccepted}

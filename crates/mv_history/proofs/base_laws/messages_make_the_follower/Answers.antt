@@ -1,4 +1,3 @@
-use Rattle.mv_history.specs.Places.{place_of}
 use Rattle.mv_history.proofs.BaseLaws.{base_ties, ties_on}
 use Rattle.mv_history.proofs.base_laws.messages_make_the_follower.Goals as goal
 
