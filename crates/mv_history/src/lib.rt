@@ -31,8 +31,8 @@ pub use log_laws::{
     turns_send_little,
 };
 pub use spot_laws::{messages_are_settled, spots_are_tied};
-pub use step_laws::{readings_stay, steps_are_shown};
 pub use status::{
     Asked, AtPoint, ENTRY_LIMIT, PAYLOAD_LIMIT, Status, UPDATE_LIMIT, Urgent, Wanted,
 };
+pub use step_laws::{readings_stay, steps_are_shown};
 pub use updates::{Update, Updates};
