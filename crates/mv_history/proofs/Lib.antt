@@ -1,8 +1,8 @@
 -- The `pub mod`s are what the crates above may cite, each as the line over it says. The others are private.
 
--- the laws of joined logs (`logs_join`), and the counts of a legal one (`counts_fit`)
+-- the laws of joined logs (`logs_join`), and the counts of a legal one (`legal_small`, `number-length`, `since-length`, `marks_few`)
 pub mod WorldLaws
--- an entry comes only while the log goes on, and how a legal log ends (`logs_end_once`)
+-- an entry comes only while the log goes on, as a follower is there, and how a legal log ends (`logs_end_once`)
 pub mod Ending
 -- what a follower heard (`followers_hear`)
 pub mod Hearing
@@ -16,9 +16,9 @@ pub mod TurnLaws
 pub mod Links
 -- what a log sends has nothing prepared (`messages_are_settled`)
 pub mod Settling
--- the replay of joined lists (`replays_join`), and that points that are passed change nothing of it
+-- the replay of joined lists (`replays_join`), which is never unborn (`replay-born`); a point that is passed changes nothing of what lies past all points (`past_passed`)
 pub mod ReplayLaws
--- an accepted file isn't refused, and spells rules within the limits
+-- an accepted file isn't refused (`accepted_stays`), and spells rules within the limits (`accepted_shaped`)
 pub mod RulesLaws
 -- the rules of an accepted follower are within the limits (`hears_shaped`)
 pub mod FollowerLaws
@@ -26,7 +26,7 @@ pub mod FollowerLaws
 pub mod ByteLaws
 -- a stretch without a change of leader, or of the follower (`leads_by_itself`, `no_byte_lost`)
 pub mod StretchLaws
--- what is known of the first world, and verdicts over the whole of what was sent (`verdicts_stay`)
+-- what is known of the first world (`first_ties`, `first_small`), and verdicts over the whole of what was sent (`verdicts_stay`)
 pub mod Whole
 -- the messages that were sent make the world's follower (`ties_all`); the place after joined messages (`place_from-append`)
 pub mod TiesLaws
