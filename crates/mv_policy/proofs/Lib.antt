@@ -1,5 +1,8 @@
 pub mod DecisionSteps
+pub mod Denying
+pub mod Keeping
 pub mod LineLaws
 pub mod ReadSteps
 pub mod Splits
+pub mod Telling
 pub mod TextLaws

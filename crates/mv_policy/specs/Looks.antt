@@ -1,6 +1,7 @@
 -- What a look at a console that keeps to a policy does.
-use Rattle.std.specs.Prelude.{◌≡◌, ◌≤◌, ◌⊎◌, ℕ, Bool, true, false, List, [], ◌∷◌, ◌++◌, length, take, drop, Option, Some, None}
+use Rattle.std.specs.Prelude.{◌≡◌, ◌≤◌, ◌⊎◌, ℕ, Bool, true, false, List, [], ◌∷◌, ◌++◌, length, take, drop, Option, Some, None, Result, Ok, Err}
 use Rattle.mv_outside.specs.Told.{told_more, told_first, IsAtEnd}
+use Rattle.mv_outside.specs.declared.fault.Failed.{Failed}
 use Rattle.mv_outside.specs.declared.console.Line.{Line}
 use Rattle.mv_outside.specs.declared.console.Line.TheVariants as line
 use Rattle.mv_policy.specs.declared.spoken.Spoken.TheVariants.{Reply, Denial}
@@ -62,3 +63,9 @@ Looks before line.Memory now = now ≡ before
 abbrev pub with_reply : List Spoken → List ℕ → List Spoken
 with_reply stored [] = stored
 with_reply stored (b ∷ bytes) = stored ++ Reply (b ∷ bytes) ∷ []
+
+-- a line was said and stored; where it failed, a part of it was said
+abbrev pub HasReplied : Seen → List ℕ → Result Unit Failed → Seen → Type 0
+HasReplied before bytes (Ok done) now = now ≡ record before { said = told_more before.said bytes; stored = with_reply before.stored bytes }
+HasReplied before bytes (Err failed) now =
+    (part : ℕ) × (now ≡ record before { said = told_more before.said (take part bytes); failed_at = first_failure before.failed_at (length before.stored) })
