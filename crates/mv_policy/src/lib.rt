@@ -11,6 +11,8 @@ mod policy;
 mod reading;
 mod ruled;
 mod spoken;
+#[cfg(test)]
+mod tests;
 mod text;
 
 pub use console::PolicyConsole;

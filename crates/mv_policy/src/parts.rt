@@ -4,7 +4,7 @@ ghost use Rattle.mv_outside.specs.Causes.{Rose};
 ghost use Rattle.mv_outside.specs.Console.{IfLine, EndsLines, line_limit};
 ghost use Rattle.mv_outside.specs.Counts.{one_more};
 ghost use Rattle.mv_policy.specs.Looks.{HasReplied, Looks, first_failure};
-ghost use Rattle.mv_policy.specs.Parted.{HasDenied, IsReady, faults_of, seen_in};
+ghost use Rattle.mv_policy.specs.Parted.{HasAnswered, HasDenied, IsReady, faults_of, seen_in};
 
 use crate::decision::{Decision, decide};
 use crate::denial::{LONGEST_DENIAL, denial_line};
@@ -103,6 +103,33 @@ impl<C: Console> Parts<C> {
         }
     }
 
+    /// Hands on the order of a line that was taken, or denies it. `room` is what may be said if nothing is.
+    fn answer(&mut self, line: Bytes, room: usize, buffer: Vec<u8>) -> Line
+        requires empty { buffer.items ≡ [] }
+        requires capacity { 34 ≤ vec_capacity buffer }
+        requires denial { 34 ≤ C.room self.old.inner }
+        requires free { 0 < self.old.shelf.free }
+        requires room { (room ≤ C.room self.old.inner) × (room ≤ self.old.shelf.room) }
+        requires silent { self.old.room ≡ 0 }
+        requires short { length line ≤ line_limit }
+        ensures answered { HasAnswered line (seen_in C.coming C.said self.old) result (seen_in C.coming C.said self.new) }
+        ensures ready { IsReady C.room self.new }
+        ensures room { IfLine result (λ _. self.new.room ≡ room) }
+        ensures short { IfLine result (λ order. length order ≤ line_limit) }
+        ensures ended { C.ended self.new.inner ≡ C.ended self.old.inner }
+        ensures misses { self.new.misses ≡ self.old.misses }
+        ensures later { C.faults self.old.inner ≤ C.faults self.new.inner }
+        ensures cause { result ≡ Line.Failed → Rose (C.faults self.old.inner) (C.faults self.new.inner) }
+    {
+        match decide(&self.policy, line.slice()) {
+            Decision::Allowed { from, rule: _ } => {
+                self.room = room;
+                Line::Line(behind(line, from))
+            }
+            Decision::Denied { rule } => self.deny(rule, buffer),
+        }
+    }
+
     /// Asks the inner console once, unless a denial couldn't be said, and keeps to the policy.
     pub(crate) fn look(&mut self, alloc: Global) -> Line
         requires ready { IsReady C.room self.old }
@@ -126,13 +153,7 @@ impl<C: Console> Parts<C> {
         let room = self.room;
         self.room = 0;
         match self.inner.next(alloc) {
-            Line::Line(line) => match decide(&self.policy, line.slice()) {
-                Decision::Allowed { from, rule: _ } => {
-                    self.room = room;
-                    Line::Line(behind(line, from))
-                }
-                Decision::Denied { rule } => self.deny(rule, buffer),
-            },
+            Line::Line(line) => self.answer(line, room, buffer),
             Line::Idle => Line::Idle,
             Line::Closed => Line::Closed,
             Line::Failed => Line::Failed,
