@@ -4,5 +4,4 @@ pub mod Keeping
 pub mod LineLaws
 pub mod ReadSteps
 pub mod Splits
-pub mod Telling
 pub mod TextLaws

@@ -1,6 +1,7 @@
 pub mod Decided
 pub mod Guarded
 pub mod Looks
+pub mod Orders
 pub mod Parted
 pub mod PolicyText
 pub mod Reading

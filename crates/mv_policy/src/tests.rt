@@ -5,7 +5,7 @@ use super::*;
 use mv_calls::{Bytes, Or};
 use mv_outside::{Console, Line, MemConsole};
 use std::alloc::Global;
-use std::marker::Brand;
+use std::marker::{Brand, Send};
 use std::test::Fail;
 
 fn fault_of(alloc: Global, text: &[u8]) -> Option<PolicyFault> {
@@ -83,8 +83,15 @@ fn text_of(line: Line) -> Option<Bytes> {
     }
 }
 
+/// A value that may go to another thread.
+fn sent<T: Send>(value: T) -> T
+    ensures { result ≡ value }
+{
+    value
+}
+
 /// What is handed on of three lines, and the console at the end.
-fn ask<N: Ruled>(
+fn ask<N: Ruled + Send>(
     alloc: Global,
     inner: MemConsole,
     policy: Policy,
@@ -93,7 +100,7 @@ fn ask<N: Ruled>(
     requires said { N.began.said ≡ Some inner.state.said }
     requires policy { N.policy ≡ policy }
 {
-    let mut console: PolicyConsole<MemConsole, N> = PolicyConsole::new(alloc, inner, policy);
+    let mut console: PolicyConsole<MemConsole, N> = sent(PolicyConsole::new(alloc, inner, policy));
     let first = text_of(console.next(alloc));
     console.prepare(alloc, 5)?;
     let _ = console.say(b"told\n");
