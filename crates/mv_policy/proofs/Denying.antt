@@ -1,5 +1,5 @@
 -- A line that was taken and answered is one look.
-use Rattle.std.proofs.Common.{◌≡◌, ℕ, Bool, true, false, List, [], ◌∷◌, ◌++◌, length, take, drop, ap, sym, ◌∙◌, subst, inl, inr, Option, Some}
+use Rattle.std.proofs.Common.{◌≡◌, ℕ, true, false, List, [], ◌∷◌, ◌++◌, length, take, drop, ap, sym, ◌∙◌, subst, inl, inr, Option, Some}
 use Rattle.mv_outside.specs.Told.{told_more, told_first}
 use Rattle.mv_outside.specs.declared.console.Line.{Line}
 use Rattle.mv_outside.specs.declared.console.Line.TheVariants as line

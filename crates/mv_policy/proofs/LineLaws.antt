@@ -1,5 +1,5 @@
 -- The line that is read of some words is the one that they spell.
-use Rattle.std.proofs.Common.{◌≡◌, ◌≢◌, ◌<◌, ◌⊎◌, inl, inr, ◌∷◌, [], ℕ, List, Bool, true, false, ◌||◌, length, refl, ap, sym, ◌∙◌, subst, arith, codes, Option, Some, None}
+use Rattle.std.proofs.Common.{◌≡◌, ◌<◌, ◌⊎◌, inl, inr, ◌∷◌, [], ℕ, List, Bool, true, false, ◌||◌, length, refl, ap, sym, ◌∙◌, subst, arith, codes, Option, Some, None}
 use Rattle.std.specs.Prelude.{if◌then◌else◌}
 use Rattle.std.specs.List.{AllByRecursion, join_with_byte}
 use Rattle.std.specs.Str.{bytes_eq}
@@ -12,7 +12,7 @@ use Rattle.mv_policy.specs.declared.line.Which.TheVariants as which
 use Rattle.mv_policy.specs.declared.line.PolicyLine.{PolicyLine}
 use Rattle.mv_policy.specs.declared.line.PolicyLine.TheVariants.{Empty, User, Allow, Deny}
 use Rattle.mv_policy.specs.PolicyText.{which_text, who_text, line_words, IsWord, IsNobody, NamesNobody, SpellsLine}
-use Rattle.mv_policy.specs.Reading.{cut, who_of, which_of, is_empty, rule_of, rule_on, three_words, one_word, line_of}
+use Rattle.mv_policy.specs.Reading.{cut, who_of, which_of, is_empty, rule_on, three_words, line_of}
 use Rattle.mv_policy.proofs.Splits.{Lacks, cut_lacks, cut_join}
 
 -- a choice that gave a value took it here or further on

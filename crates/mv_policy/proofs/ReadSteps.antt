@@ -1,5 +1,5 @@
 -- Reading line by line.
-use Rattle.std.proofs.Common.{◌≡◌, ◌<◌, ◌∷◌, [], ℕ, suc, ◌+◌, List, ◌++◌, length, drop, get_or, map, refl, ap, sym, ◌∙◌, add-one, drop-cons, Bor}
+use Rattle.std.proofs.Common.{◌≡◌, ◌<◌, ◌∷◌, [], ℕ, suc, ◌+◌, List, ◌++◌, length, drop, get_or, map, ap, sym, ◌∙◌, add-one, drop-cons, Bor}
 use Rattle.std.specs.Prelude.{Result, Ok, Err}
 use Rattle.mv_policy.specs.declared.line.PolicyLine.{PolicyLine}
 use Rattle.mv_policy.specs.declared.fault.PolicyFault.{PolicyFault}

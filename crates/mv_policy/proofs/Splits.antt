@@ -1,5 +1,5 @@
 -- Cutting bytes at each that is this one, and joining the parts again.
-use Rattle.std.proofs.Common.{◌≡◌, ◌≢◌, ◌∷◌, ◌++◌, [], ℕ, List, Bool, true, false, refl, ap, ◌∙◌, eqb, All, cond}
+use Rattle.std.proofs.Common.{◌≡◌, ◌≢◌, ◌∷◌, [], ℕ, List, Bool, true, false, refl, ap, ◌∙◌, eqb, All, cond}
 use Rattle.std.specs.List.{AllByRecursion, onto_first, join_with_byte}
 use Rattle.std.proofs.lemmas.List.Splits.{slice_split_none, slice_split_at}
 use Rattle.std.proofs.lemmas.Bool.{ne_eqb, eqb-false}

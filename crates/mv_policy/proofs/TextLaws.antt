@@ -4,7 +4,7 @@ use Rattle.std.specs.Prelude.{Result, Ok, Err, IfOk, if◌then◌else◌}
 use Rattle.mv_calls.specs.declared.fault.Or.{Or}
 use Rattle.mv_calls.specs.declared.fault.Or.TheVariants.{Fault, OutOfMemory}
 use Rattle.mv_calls.specs.Or.{IfFault}
-use Rattle.std.specs.List.{AllByRecursion, join_with_byte}
+use Rattle.std.specs.List.{join_with_byte}
 use Rattle.std.specs.Str.{bytes_eq}
 use Rattle.std.proofs.lemmas.List.{append_cancel_right}
 use Rattle.std.proofs.lemmas.List.Splits.{join_with_byte-slice_split}
@@ -13,7 +13,7 @@ use Rattle.mv_policy.specs.declared.line.PolicyLine.{PolicyLine}
 use Rattle.mv_policy.specs.declared.fault.PolicyKind.{PolicyKind}
 use Rattle.mv_policy.specs.declared.fault.PolicyKind.TheVariants as kind
 use Rattle.mv_policy.specs.declared.fault.PolicyFault.{PolicyFault}
-use Rattle.mv_policy.specs.PolicyText.{SpellsLine, SpellsLines, AreSound, IsFaulty, IsTextOf, HasLines, Spells, IsFaultyLine, IsFirstFault, Reads, fault_of}
+use Rattle.mv_policy.specs.PolicyText.{SpellsLine, SpellsLines, AreSound, IsFaulty, IsTextOf, HasLines, Spells, IsFirstFault, Reads, fault_of}
 use Rattle.mv_policy.specs.Reading.{cut, line_of, fault_at, unless, judged, next_line, and_then, read_lines, read_all}
 use Rattle.mv_policy.proofs.Splits.{cut_lacks, cut_join}
 use Rattle.mv_policy.proofs.LineLaws.{found_spells, spelled_found}

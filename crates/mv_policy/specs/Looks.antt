@@ -1,5 +1,5 @@
 -- What a look at a console that keeps to a policy does.
-use Rattle.std.specs.Prelude.{◌≡◌, ◌≤◌, ◌⊎◌, ℕ, Bool, true, false, List, [], ◌∷◌, ◌++◌, length, take, drop, Option, Some, None, Result, Ok, Err}
+use Rattle.std.specs.Prelude.{◌≡◌, ◌⊎◌, ℕ, true, false, List, [], ◌∷◌, ◌++◌, length, take, drop, Option, Some, None, Result, Ok, Err}
 use Rattle.mv_outside.specs.Told.{told_more, told_first, IsAtEnd}
 use Rattle.mv_outside.specs.declared.fault.Failed.{Failed}
 use Rattle.mv_outside.specs.declared.console.Line.{Line}

@@ -1,5 +1,5 @@
 -- For private clauses: the parts of a console that keeps to a policy.
-use Rattle.std.specs.Prelude.{◌≡◌, ◌≤◌, ◌<◌, ◌+◌, ℕ, Bool, true, List, [], ◌∷◌, ◌++◌, ◌⊎◌, length, take, drop, Option}
+use Rattle.std.specs.Prelude.{◌≡◌, ◌≤◌, ◌<◌, ◌+◌, ℕ, true, List, [], ◌∷◌, ◌++◌, ◌⊎◌, length, take, drop, Option}
 use Rattle.mv_outside.specs.Told.{told_more}
 use Rattle.mv_outside.specs.declared.console.Line.{Line}
 use Rattle.mv_outside.specs.declared.console.Line.TheVariants as line

@@ -63,15 +63,30 @@ fn each_kind_of_fault_is_found_at_its_line(rt: HostRuntime) -> Result<(), Fail> 
 }
 
 #[test]
-fn a_policy_of_no_rule_denies_all(rt: HostRuntime) -> Result<(), Fail> {
+fn the_first_rule_that_applies_decides(rt: HostRuntime) -> Result<(), Fail> {
     let alloc = rt.alloc();
-    let policy = parse_policy(alloc, b"mvpolicy 1\nuser ann s1\n")?;
-    for line in [
-        b"ann s1 status".as_slice(),
-        b"ann s1".as_slice(),
-        b"".as_slice(),
+    let none = parse_policy(alloc, b"mvpolicy 1\nuser ann s1\n")?;
+    let some = parse_policy(
+        alloc,
+        b"mvpolicy 1\nuser ann s1\nuser bob k9\ndeny bob halt\nallow ann *\nallow * status",
+    )?;
+    for (line, says) in [
+        (
+            b"ann s1 halt".as_slice(),
+            Decision::Allowed { from: 7, rule: 5 },
+        ),
+        (b"bob k9 halt".as_slice(), Decision::Denied { rule: 4 }),
+        (b"bob k9 promote".as_slice(), Decision::Denied { rule: 0 }),
+        (
+            b"bob k9 status".as_slice(),
+            Decision::Allowed { from: 7, rule: 6 },
+        ),
+        (b"bob s1 status".as_slice(), Decision::Denied { rule: 0 }),
+        (b"ann s status".as_slice(), Decision::Denied { rule: 0 }),
+        (b"ann s1".as_slice(), Decision::Denied { rule: 0 }),
     ] {
-        assert_eq!(rt; decide(&policy, line), Decision::Denied { rule: 0 });
+        assert_eq!(rt; decide(&none, line), Decision::Denied { rule: 0 });
+        assert_eq!(rt; decide(&some, line), says);
     }
     Ok(())
 }

@@ -1,4 +1,4 @@
-use Rattle.std.proofs.Common.{sym, ◌∙◌}
+use Rattle.std.proofs.Common.{sym}
 use Rattle.mv_policy.proofs.DecisionSteps.{rule_found}
 use Rattle.mv_policy.proofs.decision.by_token.Goals as goal
 

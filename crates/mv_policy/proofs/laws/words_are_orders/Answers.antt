@@ -1,8 +1,8 @@
-use Rattle.std.proofs.Common.{◌≡◌, ℕ, List, ap, refl, ◌∙◌}
+use Rattle.std.proofs.Common.{◌≡◌, ap, refl, ◌∙◌}
 use Rattle.std.specs.List.{join_with_byte}
 use Rattle.mv_orders.specs.declared.order.Order.{Order}
 use Rattle.mv_orders.specs.declared.order.Order.TheVariants as order
-use Rattle.mv_orders.specs.Order.{IsOrder, order_words}
+use Rattle.mv_orders.specs.Order.{order_words}
 use Rattle.mv_policy.specs.PolicyText.{which_text}
 use Rattle.mv_policy.specs.Decided.{first_word}
 use Rattle.mv_policy.specs.Orders.{which_order}

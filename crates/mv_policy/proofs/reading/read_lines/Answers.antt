@@ -1,4 +1,4 @@
-use Rattle.std.proofs.Common.{◌≡◌, ℕ, Bor, get_or, ◌+◌, ◌<◌, ◌≤◌, ◌∷◌, [], List, arith, length, length-append, ap, sym, ◌∙◌}
+use Rattle.std.proofs.Common.{◌≡◌, ℕ, Bor, get_or, ◌+◌, ◌<◌, ◌∷◌, [], List, arith, length, length-append, ap, sym, ◌∙◌}
 use Rattle.mv_policy.specs.declared.line.PolicyLine.{PolicyLine}
 use Rattle.mv_policy.specs.Reading.{next_line}
 use Rattle.mv_policy.proofs.ReadSteps.{read_step}

@@ -1,5 +1,5 @@
-use Rattle.std.proofs.Common.{◌≡◌, ◌≤◌, ◌∷◌, ◌++◌, [], List, ℕ, ap, sym, ◌∙◌, length, map, arith}
-use Rattle.mv_policy.specs.Reading.{cut, read_all}
+use Rattle.std.proofs.Common.{◌≡◌, ap, ◌∙◌, map, arith}
+use Rattle.mv_policy.specs.Reading.{cut}
 use Rattle.mv_policy.proofs.TextLaws.{if_policy, if_fault}
 use Rattle.mv_policy.proofs.text.parse_policy.Goals as goal
 
