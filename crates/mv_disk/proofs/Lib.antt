@@ -1,0 +1,6 @@
+mod AppendLaws
+mod AppendRuns
+mod Moments
+mod PrepareLaws
+mod RecordLaws
+mod TornLaws

@@ -1,0 +1,4 @@
+pub mod Disk
+pub mod Journal
+pub mod Kept
+pub mod Records
