@@ -3,4 +3,5 @@ mod AppendRuns
 mod Moments
 mod PrepareLaws
 mod RecordLaws
+mod StoryLaws
 mod TornLaws

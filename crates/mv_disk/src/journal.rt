@@ -2,9 +2,10 @@
 ghost use Rattle.std.specs.Prelude.{◌≡◌, ◌≢◌, ◌⊎◌, ◌^◌, ◌≤◌, ◌++◌, [], ◌∷◌, length, OnOk, false, is_err};
 ghost use Rattle.mv_calls.specs.Or.{IsFault, WantsMemory};
 ghost use Rattle.mv_outside.specs.Causes.{Rose};
-ghost use Rattle.mv_disk.specs.Disk.{IfTold, IsSameDisk, LeavesOnly};
+ghost use Rattle.mv_disk.specs.Disk.{HasLength, IfTold, IsSameDisk, LeavesOnly};
 ghost use Rattle.mv_disk.specs.Records.{records};
 ghost use Rattle.mv_disk.specs.Kept.{HasRecords, IsBlank, IsKept, IsWhole, Story, new_story, told_on};
+ghost use Rattle.mv_disk.specs.Made.{IfJournal, IfUsed, IsFailed, IsUsed, disk_of};
 
 use crate::disk::Disk;
 use crate::writing::{append_at, prepare};
@@ -31,7 +32,53 @@ impl<D: Disk> Model for Journal<D> {
     ghost invariant = { λ j. IsReady j.end j.failed (D.reads j.disk) (D.may_leave j.disk) };
 }
 
+/// What came of making a journal. The disk is handed back with every answer.
+#[derive(Drop)]
+pub enum Made<D: Disk> {
+    Journal(Journal<D>),
+    /// The disk isn't empty: it has this length.
+    Used {
+        disk: D,
+        len: u64,
+    },
+    /// A call of the disk failed.
+    Failed {
+        disk: D,
+    },
+    /// There was no memory for a call of the disk.
+    Memory {
+        disk: D,
+    },
+}
+
+/// Where the first record begins behind its gate: the mark and the gate end here.
+const FIRST_END: u64 = 9;
+
 impl<D: Disk> Journal<D> {
+    /// A journal without a record on an empty disk. Another disk is left as it is.
+    pub fn create(alloc: Global, disk: D) -> Made<D>
+        ensures journal { IfJournal result (λ j. (j.failed ≡ false) × IfTold (D.reads disk) (λ _. HasRecords (D.reads j.disk) (D.may_leave j.disk) [])) }
+        ensures used { IfUsed result (λ len. (len ≢ 0) × HasLength (D.reads disk) len × IsSameDisk D.reads D.may_leave D.moment D.left_since disk (disk_of result)) }
+        // A disk that isn't empty is answered as such, unless it failed in this call.
+        ensures used_where { IfTold (D.reads disk) (λ content. length content ≢ 0 → IsUsed result ⊎ Rose (D.faults disk) (D.faults (disk_of result))) }
+        ensures any_moment { IsBlank (D.reads disk) (D.may_leave disk) → LeavesOnly D.moment D.left_since disk (disk_of result) (λ c. records c ≡ []) }
+        ensures kept { IsBlank (D.reads disk) (D.may_leave disk) → IsKept D.moment D.left_since (disk_of result) (new_story (D.moment disk)) }
+        ensures later { D.faults disk ≤ D.faults (disk_of result) }
+        ensures cause { IsFailed result → Rose (D.faults disk) (D.faults (disk_of result)) }
+    {
+        let mut disk = disk;
+        match prepare(alloc, &mut disk) {
+            Ok(0) => Made::Journal(Journal {
+                disk,
+                end: FIRST_END,
+                failed: false,
+            }),
+            Ok(len) => Made::Used { disk, len },
+            Err(Or::Fault(Failed)) => Made::Failed { disk },
+            Err(Or::OutOfMemory) => Made::Memory { disk },
+        }
+    }
+
     /// Adds a record. Any crash during the call leaves the records from before it, with this one or without; from an Ok on,
     /// every crash leaves it. After a failure or want of memory the journal takes no more.
     ///

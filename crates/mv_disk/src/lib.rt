@@ -11,6 +11,6 @@ mod journal;
 mod writing;
 
 pub use disk::Disk;
-pub use journal::Journal;
+pub use journal::{Journal, Made};
 //pub use mem_disk::{MemDisk, Step};
 //pub use recovery::recover;

@@ -78,6 +78,7 @@ pub fn append_at<D: Disk>(
 /// Makes an empty disk ready for records, and answers 0; of another disk it answers the length, and writes nothing.
 pub fn prepare<D: Disk>(alloc: Global, disk: &mut D) -> Result<u64, Or<Failed>>
     ensures length { IfOk result (HasLength (D.reads disk.old)) }
+    ensures memory { WantsMemory result → HasLength (D.reads disk.old) 0 }
     ensures used { IfOk result (λ len. len ≢ 0 → IsSameDisk D.reads D.may_leave D.moment D.left_since disk.old disk.new) }
     ensures at_rest { IfOk result (λ len. len ≡ 0 → IfTold (D.reads disk.new) (IsAtRest 9 (D.may_leave disk.new))) }
     ensures ready { IfOk result (λ len. len ≡ 0 → IfTold (D.reads disk.old) (λ _. HasRecords (D.reads disk.new) (D.may_leave disk.new) [])) }
