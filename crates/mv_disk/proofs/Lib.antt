@@ -1,7 +1,10 @@
 mod AppendLaws
 mod AppendRuns
+mod MemLaws
 mod Moments
 mod PrepareLaws
+mod ReadLaws
 mod RecordLaws
+mod SameLaws
 mod StoryLaws
 mod TornLaws

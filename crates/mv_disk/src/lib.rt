@@ -6,11 +6,11 @@
 
 mod disk;
 mod journal;
-//mod mem_disk;
-//mod recovery;
+mod mem_disk;
+mod recovery;
 mod writing;
 
 pub use disk::Disk;
 pub use journal::{Journal, Made};
-//pub use mem_disk::{MemDisk, Step};
-//pub use recovery::recover;
+pub use mem_disk::{MemDisk, Step};
+pub use recovery::recover;
