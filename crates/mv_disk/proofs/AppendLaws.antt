@@ -47,10 +47,10 @@ module _ (end : ℕ) (outcomes : List ℕ → Type 0) (content : List ℕ) (rest
   pub torn_behind : (n : ℕ) (c : List ℕ) → Torn end n content c → records c ≡ records content
   torn_behind n c torn =
       let front : take end c ≡ before_gate rest.bodies ++ 0 ∷ [] =
-        front_same end n content c (omega (arith, rest.end_is)) torn ∙ take_all end content (omega (arith, rest.end_is)) ∙ rest.content_is ∙ at_rest_is rest.bodies in
+      front_same end n content c (omega (arith, rest.end_is)) torn ∙ take_all end content (omega (arith, rest.end_is)) ∙ rest.content_is ∙ at_rest_is rest.bodies in
       let whole : c ≡ mark ++ (flat_map row rest.bodies ++ 0 ∷ drop end c) =
-        sym (take-append-drop end c) ∙ ap (λ (l : List ℕ). l ++ drop end c) front
-        ∙ append_assoc (before_gate rest.bodies) (0 ∷ []) (drop end c) ∙ regroup rest.bodies (0 ∷ drop end c) in
+      sym (take-append-drop end c) ∙ ap (λ (l : List ℕ). l ++ drop end c) front
+      ∙ append_assoc (before_gate rest.bodies) (0 ∷ []) (drop end c) ∙ regroup rest.bodies (0 ∷ drop end c) in
       ap records whole ∙ records-shut rest.bodies 0 (drop end c) rest.short (omega arith) ∙ sym holds
 
   -- a whole record behind any gate counts or it doesn't
@@ -60,8 +60,8 @@ module _ (end : ℕ) (outcomes : List ℕ → Type 0) (content : List ℕ) (rest
       let is : with_record rest.bodies gate body ≡ mark ++ (flat_map row rest.bodies ++ gate ∷ (sized body ++ 0 ∷ [])) = regroup rest.bodies (gate ∷ (sized body ++ 0 ∷ [])) in
       ⊎_elim
       (λ (opened : gate ≡ 1). inr (ap records is
-        ∙ ap (λ (g : ℕ). records (mark ++ (flat_map row rest.bodies ++ g ∷ (sized body ++ 0 ∷ [])))) opened
-        ∙ records-more rest.bodies body rest.short short ∙ ap (λ (l : List (List ℕ)). l ++ body ∷ []) (sym holds)))
+      ∙ ap (λ (g : ℕ). records (mark ++ (flat_map row rest.bodies ++ g ∷ (sized body ++ 0 ∷ [])))) opened
+      ∙ records-more rest.bodies body rest.short short ∙ ap (λ (l : List (List ℕ)). l ++ body ∷ []) (sym holds)))
       (λ shut. inl (ap records is ∙ records-shut rest.bodies gate (sized body ++ 0 ∷ []) rest.short shut ∙ sym holds))
       (cases_eq gate 1)
 
@@ -74,15 +74,15 @@ module _ (end : ℕ) (outcomes : List ℕ → Type 0) (content : List ℕ) (rest
       let long : length (with_record rest.bodies 0 body) ≡ length (before_gate rest.bodies) + (1 + length tail) = omega (arith, length-append (before_gate rest.bodies) (0 ∷ tail)) in
       let gate : ℕ = get_or c (end - 1) 0 in
       let front : take (end - 1) c ≡ before_gate rest.bodies =
-        front_same (end - 1) 1 (with_record rest.bodies 0 body) c (omega arith) torn ∙ take_at (before_gate rest.bodies) (0 ∷ tail) (end - 1) (sym place) in
+      front_same (end - 1) 1 (with_record rest.bodies 0 body) c (omega arith) torn ∙ take_at (before_gate rest.bodies) (0 ∷ tail) (end - 1) (sym place) in
       let behind : drop (end - 1 + 1) (with_record rest.bodies 0 body) ≡ tail =
-        ap (λ (l : List ℕ). drop (end - 1 + 1) l) (sym (append_assoc (before_gate rest.bodies) (0 ∷ []) tail))
-        ∙ drop_at (before_gate rest.bodies ++ 0 ∷ []) tail (end - 1 + 1) (omega (arith, length-append (before_gate rest.bodies) (0 ∷ []))) in
+      ap (λ (l : List ℕ). drop (end - 1 + 1) l) (sym (append_assoc (before_gate rest.bodies) (0 ∷ []) tail))
+      ∙ drop_at (before_gate rest.bodies ++ 0 ∷ []) tail (end - 1 + 1) (omega (arith, length-append (before_gate rest.bodies) (0 ∷ []))) in
       let back : drop (end - 1) c ≡ gate ∷ tail =
-        drop_more c (end - 1) 0 (omega (arith, torn.no_shorter))
-        ∙ ap (λ (l : List ℕ). gate ∷ l) (back_same (end - 1) 1 (with_record rest.bodies 0 body) c (omega arith) torn ∙ behind) in
+      drop_more c (end - 1) 0 (omega (arith, torn.no_shorter))
+      ∙ ap (λ (l : List ℕ). gate ∷ l) (back_same (end - 1) 1 (with_record rest.bodies 0 body) c (omega arith) torn ∙ behind) in
       let whole : c ≡ with_record rest.bodies gate body =
-        sym (take-append-drop (end - 1) c) ∙ ap (λ (l : List ℕ). l ++ drop (end - 1) c) front ∙ ap (λ (l : List ℕ). before_gate rest.bodies ++ l) back in
+      sym (take-append-drop (end - 1) c) ∙ ap (λ (l : List ℕ). l ++ drop (end - 1) c) front ∙ ap (λ (l : List ℕ). before_gate rest.bodies ++ l) back in
       subst (λ (l : List ℕ). (records l ≡ records content) ⊎ (records l ≡ records content ++ body ∷ [])) (sym whole) (any_gate body gate short)
 
   -- and done
@@ -92,14 +92,14 @@ module _ (end : ℕ) (outcomes : List ℕ → Type 0) (content : List ℕ) (rest
       with_bytes-one (before_gate rest.bodies) 0 1 tail (end - 1) (omega (arith, gate_place))
       ∙ regroup rest.bodies (1 ∷ tail)
       ∙ ap (λ (l : List ℕ). mark ++ l)
-        (sym (ap (λ (l : List ℕ). l ++ 0 ∷ []) (flat_map-append row rest.bodies (body ∷ []) ∙ ap (λ (l : List ℕ). flat_map row rest.bodies ++ l) (append-nil (row body)))
-          ∙ append_assoc (flat_map row rest.bodies) (row body) (0 ∷ [])))
+      (sym (ap (λ (l : List ℕ). l ++ 0 ∷ []) (flat_map-append row rest.bodies (body ∷ []) ∙ ap (λ (l : List ℕ). flat_map row rest.bodies ++ l) (append-nil (row body)))
+      ∙ append_assoc (flat_map row rest.bodies) (row body) (0 ∷ [])))
 
   pub length-opened : (body : List ℕ) → length (at_rest (rest.bodies ++ body ∷ [])) ≡ end + (length (sized body) + 1)
   length-opened body =
       let tail : List ℕ = sized body ++ 0 ∷ [] in
       let same : at_rest (rest.bodies ++ body ∷ []) ≡ before_gate rest.bodies ++ 1 ∷ tail =
-        sym (opened body) ∙ with_bytes-one (before_gate rest.bodies) 0 1 tail (end - 1) (omega (arith, gate_place)) in
+      sym (opened body) ∙ with_bytes-one (before_gate rest.bodies) 0 1 tail (end - 1) (omega (arith, gate_place)) in
       omega (arith, ap length same, length-append (before_gate rest.bodies) (1 ∷ tail), length-append (sized body) (0 ∷ []), gate_place)
 
   -- the record is there, and the content ends at its new end

@@ -27,7 +27,7 @@ module _ (end : ℕ) (outcomes : List ℕ → Type 0) (body bytes content : List
   pub gate_inside : (told now : Option (List ℕ)) (new : List ℕ) → told ≡ Some content → now ≡ option_map (λ (l : List ℕ). with_bytes l end bytes) told → now ≡ Some new → end - 1 + 0 ≤ length new
   gate_inside told now new is written some =
       let both : Some new ≡ Some (with_bytes content end bytes) =
-        sym some ∙ written ∙ ap (λ (o : Option (List ℕ)). option_map (λ (l : List ℕ). with_bytes l end bytes) o) is in
+      sym some ∙ written ∙ ap (λ (o : Option (List ℕ)). option_map (λ (l : List ℕ). with_bytes l end bytes) o) is in
       let new_is : new ≡ with_bytes content end bytes = cc in
       omega (arith, ap length (new_is ∙ with_bytes-end content end bytes rest.end_is), length-append content bytes, rest.end_is)
 

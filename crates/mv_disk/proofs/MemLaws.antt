@@ -48,11 +48,11 @@ one_step : (first : List ℕ) (steps : List Step) (s : Step) →
 one_step first steps s = record {
   later = omega (arith, long);
   nothing_else = λ t c le (k, past, within, left). ⊎_elim
-    (λ new. inr (subst (λ (l : List Step). MayLeave first l c) (take_all k (steps ++ s ∷ []) (omega (arith, long))) left))
-    (λ old. inl (k, past, old, subst (λ (l : List Step). MayLeave first l c) (take-append-le k steps (s ∷ []) old) left))
-    (cases_lt (length steps) k);
+      (λ new. inr (subst (λ (l : List Step). MayLeave first l c) (take_all k (steps ++ s ∷ []) (omega (arith, long))) left))
+      (λ old. inl (k, past, old, subst (λ (l : List Step). MayLeave first l c) (take-append-le k steps (s ∷ []) old) left))
+      (cases_lt (length steps) k);
   keeps = λ t c le (k, past, within, left).
-    (k, past, omega (arith, long), subst (λ (l : List Step). MayLeave first l c) (sym (take-append-le k steps (s ∷ []) within)) left);
+      (k, past, omega (arith, long), subst (λ (l : List Step). MayLeave first l c) (sym (take-append-le k steps (s ∷ []) within)) left);
 }
   where
     long : length (steps ++ s ∷ []) ≡ length steps + 1

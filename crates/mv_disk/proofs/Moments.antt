@@ -21,9 +21,9 @@ module _ {D : Type 0} (moment : D → ℕ) (left_since : D → ℕ → List ℕ 
     later = omega (arith, one.later, two.later);
     each = λ c left. ⊎_elim (λ was. of_one c (one.each c was)) (λ now. of_two c now) (two.earlier (moment first) c one.later left);
     earlier = λ t c le left. ⊎_elim
-      (λ was. ⊎_elim (λ before. inl before) (λ here. inr (of_one c here)) (one.earlier t c le was))
-      (λ now. inr (of_two c now))
-      (two.earlier t c (omega (arith, le, one.later)) left);
+        (λ was. ⊎_elim (λ before. inl before) (λ here. inr (of_one c here)) (one.earlier t c le was))
+        (λ now. inr (of_two c now))
+        (two.earlier t c (omega (arith, le, one.later)) left);
   }
 
   -- it leaves less than that

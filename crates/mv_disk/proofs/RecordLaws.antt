@@ -35,7 +35,7 @@ records_from-front (x ∷ rest) body h =
     let more : List ℕ = drop (5 + length body) (x ∷ rest) in
     ap (λ (o : Option (List ℕ)). option_map_or (λ (b : List ℕ). b ∷ records_within (length rest) (drop (5 + length b) (x ∷ rest))) o []) h
     ∙ ap (λ (l : List (List ℕ)). body ∷ l)
-      (same_bound (length rest) (length more) more (omega (arith, length-drop (5 + length body) (x ∷ rest))) (omega arith))
+    (same_bound (length rest) (length more) more (omega (arith, length-drop (5 + length body) (x ∷ rest))) (omega arith))
 
 -- none that counts begins here
 pub records_from-end : (rest : List ℕ) → front_body rest ≡ None → records_from rest ≡ []
@@ -73,9 +73,9 @@ records_from-row body more short some =
     let size : from_le_bytes w32 rest ≡ length body = from_le_bytes-to_le_bytes_4 (length body) short in
     let long : length rest ≡ 4 + (length body + length more) = omega (arith, length-append body more) in
     let front : front_body (row body ++ more) ≡ Some body =
-      front_body-open rest (length body) size (omega arith) ∙ ap Some (take_at body more (length body) refl) in
+    front_body-open rest (length body) size (omega arith) ∙ ap Some (take_at body more (length body) refl) in
     let behind : drop (5 + length body) (row body ++ more) ≡ more =
-      drop_at (row body) more (5 + length body) (omega (arith, length-sized body)) in
+    drop_at (row body) more (5 + length body) (omega (arith, length-sized body)) in
     records_from-front (row body ++ more) body front ∙ ap (λ (l : List ℕ). body ∷ records_from l) behind
 
 pub records_from-rows : (bodies : List (List ℕ)) (more : List ℕ) → All (λ body. length body < 2 ^ 32) bodies → 0 < length more → records_from (flat_map row bodies ++ more) ≡ bodies ++ records_from more
@@ -108,7 +108,7 @@ pub records-more : (bodies : List (List ℕ)) (body : List ℕ) → All (λ body
 records-more bodies body short one =
     records-rows bodies (row body ++ 0 ∷ []) short (omega arith)
     ∙ ap (λ (l : List (List ℕ)). bodies ++ l) (records_from-row body (0 ∷ []) one (omega arith)
-      ∙ ap (λ (l : List (List ℕ)). body ∷ l) (records_from-end (0 ∷ []) (front_body-shut 0 [] (omega arith))))
+    ∙ ap (λ (l : List (List ℕ)). body ∷ l) (records_from-end (0 ∷ []) (front_body-shut 0 [] (omega arith))))
 
 -- without a record behind it a mark has none
 pub records-few : (content : List ℕ) → front_body (drop 8 content) ≡ None → records content ≡ []

@@ -33,11 +33,11 @@ module _ {D : Type 0} (reads : D → Option (List ℕ)) (may_leave : D → List 
       ⊎_elim
       (λ (none : length s.bodies ≡ 0). empty_part (records content) s.bodies none part)
       (λ some.
-        let last : ℕ = length s.bodies - 1 in
-        let within : last < length s.moments = omega arith in
-        let at = kept.at_least last within content (counts_now disk (get_or s.moments last 0) content (kept.past last within) (leaves_read disk content told)) in
-        let all : last + 1 ≡ length s.bodies = omega arith in
-        all_of_part (records content) s.bodies part (subst (λ (n : ℕ). take n (records content) ≡ take n s.bodies) all at))
+      let last : ℕ = length s.bodies - 1 in
+      let within : last < length s.moments = omega arith in
+      let at = kept.at_least last within content (counts_now disk (get_or s.moments last 0) content (kept.past last within) (leaves_read disk content told)) in
+      let all : last + 1 ≡ length s.bodies = omega arith in
+      all_of_part (records content) s.bodies part (subst (λ (n : ℕ). take n (records content) ≡ take n s.bodies) all at))
       (cases_eq (length s.bodies) 0)
 
   module _ (old new : D) (content body : List ℕ) (s : Story) (told : reads old ≡ Some content) (whole : IsWhole s) (kept : IsKept moment left_since old s)
@@ -49,9 +49,9 @@ module _ {D : Type 0} (reads : D → Option (List ℕ)) (may_leave : D → List 
     more_part c left = ⊎_elim
         (λ was. part_of_more (records c) s.bodies body (kept.first_part c was))
         (λ here. ⊎_elim
-          (λ before. part_of_more (records c) s.bodies body (sym (take_all (length (records c)) (records c) (omega arith)) ∙ ap (λ (l : List (List ℕ)). take (length (records c)) l) (before ∙ bodies_are)))
-          (λ with. sym (take_all (length (records c)) (records c) (omega arith)) ∙ ap (λ (l : List (List ℕ)). take (length (records c)) l) (with ∙ ap (λ (l : List (List ℕ)). l ++ body ∷ []) bodies_are))
-          here)
+        (λ before. part_of_more (records c) s.bodies body (sym (take_all (length (records c)) (records c) (omega arith)) ∙ ap (λ (l : List (List ℕ)). take (length (records c)) l) (before ∙ bodies_are)))
+        (λ with. sym (take_all (length (records c)) (records c) (omega arith)) ∙ ap (λ (l : List (List ℕ)). take (length (records c)) l) (with ∙ ap (λ (l : List (List ℕ)). l ++ body ∷ []) bodies_are))
+        here)
         (run.earlier s.since c kept.made left)
 
     more_least : (k : ℕ) → k < length s.moments → (c : List ℕ) → left_since new (get_or s.moments k 0) c → take (k + 1) (records c) ≡ take (k + 1) (s.bodies ++ body ∷ [])
@@ -60,9 +60,9 @@ module _ {D : Type 0} (reads : D → Option (List ℕ)) (may_leave : D → List 
         ⊎_elim
         (λ was. kept.at_least k within c was ∙ sym small)
         (λ here. ⊎_elim
-          (λ before. ap (λ (l : List (List ℕ)). take (k + 1) l) (before ∙ bodies_are) ∙ sym small)
-          (λ with. ap (λ (l : List (List ℕ)). take (k + 1) l) (with ∙ ap (λ (l : List (List ℕ)). l ++ body ∷ []) bodies_are))
-          here)
+        (λ before. ap (λ (l : List (List ℕ)). take (k + 1) l) (before ∙ bodies_are) ∙ sym small)
+        (λ with. ap (λ (l : List (List ℕ)). take (k + 1) l) (with ∙ ap (λ (l : List (List ℕ)). l ++ body ∷ []) bodies_are))
+        here)
         (run.earlier (get_or s.moments k 0) c (kept.past k within) left)
 
     pub kept_err : IsKept moment left_since new (record { since = s.since; bodies = s.bodies ++ body ∷ []; moments = s.moments })
@@ -81,11 +81,11 @@ module _ {D : Type 0} (reads : D → Option (List ℕ)) (may_leave : D → List 
       few = omega (arith, kept.few, length-append s.bodies (body ∷ []), length-append s.moments (moment new ∷ []));
       past = λ k within. ⊎_elim (λ last. omega (arith, at_end k last)) (λ below. omega (arith, at_front k (earlier k within below), kept.past k (earlier k within below), run.later)) (cases_eq k (length s.moments));
       at_least = λ k within c left. ⊎_elim
-        (λ last.
+          (λ last.
           let left_now = subst (λ (t : ℕ). left_since new t c) (at_end k last) left in
           ap (λ (l : List (List ℕ)). take (k + 1) l) (lasts c (only_now new c left_now) ∙ ap (λ (l : List (List ℕ)). l ++ body ∷ []) bodies_are))
-        (λ below. more_least k (earlier k within below) c (subst (λ (t : ℕ). left_since new t c) (at_front k (earlier k within below)) left))
-        (cases_eq k (length s.moments));
+          (λ below. more_least k (earlier k within below) c (subst (λ (t : ℕ). left_since new t c) (at_front k (earlier k within below)) left))
+          (cases_eq k (length s.moments));
     }
       where
         earlier : (k : ℕ) → k < length (s.moments ++ moment new ∷ []) → (k ≡ length s.moments → ⊥) → k < length s.moments
@@ -103,7 +103,7 @@ pub kept_new : {D : Type 0} (moment : D → ℕ) (left_since : D → ℕ → Lis
 kept_new moment left_since first last run = record {
   made = run.later;
   first_part = λ c left. let none = run.each c left in
-    none ∙ sym (ap (λ (l : List (List ℕ)). take (length l) []) none);
+      none ∙ sym (ap (λ (l : List (List ℕ)). take (length l) []) none);
   few = omega arith;
   past = λ k within. absurd (omega arith);
   at_least = λ k within. absurd (omega arith);

@@ -9,7 +9,7 @@ front_same at n before now within torn =
     ext_get_or 0 (take at now) (take at before)
     (omega (arith, length-take at now, length-take at before, torn.no_shorter))
     (λ p h. let below : p < at = omega (arith, length-take at now) in
-      get_or-take at now p 0 below ∙ torn.front p below (omega arith) ∙ sym (get_or-take at before p 0 below))
+    get_or-take at now p 0 below ∙ torn.front p below (omega arith) ∙ sym (get_or-take at before p 0 below))
 
 -- what stands behind it, where it ends inside
 pub back_same : (at n : ℕ) (before now : List ℕ) → at + n ≤ length before → Torn at n before now → drop (at + n) now ≡ drop (at + n) before

@@ -12,15 +12,15 @@ pub torn_by : (content : List ℕ) (at n : ℕ) (piece : List ℕ) → length pi
 torn_by content at n piece short =
     let tail : List ℕ = piece ++ drop (at + length piece) content in
     let long : length (with_bytes content at piece) ≡ min at (length content) + (length piece + (length content - (at + length piece))) =
-      omega (arith, length-append (take at content) tail, length-append piece (drop (at + length piece) content), length-take at content, length-drop (at + length piece) content) in
+    omega (arith, length-append (take at content) tail, length-append piece (drop (at + length piece) content), length-take at content, length-drop (at + length piece) content) in
     record {
       front = λ p below within. get_or_append_left (take at content) tail 0 p (omega (arith, length-take at content)) ∙ get_or-take at content p 0 below;
       back = λ p past within.
-        let place : at + length piece + (p - at - length piece) ≡ p = omega arith in
-        get_or-append_right (take at content) tail at p 0 (omega (arith, length-take at content)) (omega arith)
-        ∙ get_or-append_right piece (drop (at + length piece) content) (length piece) (p - at) 0 refl (omega arith)
-        ∙ get_or-drop (at + length piece) content (p - at - length piece) 0
-        ∙ ap (λ (k : ℕ). get_or content k 0) place;
+          let place : at + length piece + (p - at - length piece) ≡ p = omega arith in
+          get_or-append_right (take at content) tail at p 0 (omega (arith, length-take at content)) (omega arith)
+          ∙ get_or-append_right piece (drop (at + length piece) content) (length piece) (p - at) 0 refl (omega arith)
+          ∙ get_or-drop (at + length piece) content (p - at - length piece) 0
+          ∙ ap (λ (k : ℕ). get_or content k 0) place;
       no_shorter = omega (arith, long);
       no_longer = omega (arith, long);
     }

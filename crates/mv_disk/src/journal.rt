@@ -1,5 +1,5 @@
 //! The journal.
-ghost use Rattle.std.specs.Prelude.{◌≡◌, ◌≢◌, ◌⊎◌, ◌^◌, ◌≤◌, ◌++◌, [], ◌∷◌, length, OnOk, false, is_err};
+ghost use Rattle.std.specs.Prelude.{◌≡◌, ◌≢◌, ◌⊎◌, ◌+◌, ◌^◌, ◌≤◌, ◌++◌, [], ◌∷◌, length, OnOk, false, is_err};
 ghost use Rattle.mv_calls.specs.Or.{IsFault, WantsMemory};
 ghost use Rattle.mv_outside.specs.Causes.{Rose};
 ghost use Rattle.mv_disk.specs.Disk.{HasLength, IfTold, IsSameDisk, LeavesOnly};
@@ -37,18 +37,11 @@ impl<D: Disk> Model for Journal<D> {
 pub enum Made<D: Disk> {
     Journal(Journal<D>),
     /// The disk isn't empty: it has this length.
-    Used {
-        disk: D,
-        len: u64,
-    },
+    Used { disk: D, len: u64 },
     /// A call of the disk failed.
-    Failed {
-        disk: D,
-    },
+    Failed { disk: D },
     /// There was no memory for a call of the disk.
-    Memory {
-        disk: D,
-    },
+    Memory { disk: D },
 }
 
 /// Where the first record begins behind its gate: the mark and the gate end here.
@@ -57,7 +50,7 @@ const FIRST_END: u64 = 9;
 impl<D: Disk> Journal<D> {
     /// A journal without a record on an empty disk. Another disk is left as it is.
     pub fn create(alloc: Global, disk: D) -> Made<D>
-        ensures journal { IfJournal result (λ j. (j.failed ≡ false) × IfTold (D.reads disk) (λ _. HasRecords (D.reads j.disk) (D.may_leave j.disk) [])) }
+        ensures journal { IfJournal result (λ j. (j.failed ≡ false) × HasLength (D.reads disk) 0 × IfTold (D.reads disk) (λ _. HasRecords (D.reads j.disk) (D.may_leave j.disk) [])) }
         ensures used { IfUsed result (λ len. (len ≢ 0) × HasLength (D.reads disk) len × IsSameDisk D.reads D.may_leave D.moment D.left_since disk (disk_of result)) }
         // A disk that isn't empty is answered as such, unless it failed in this call.
         ensures used_where { IfTold (D.reads disk) (λ content. length content ≢ 0 → IsUsed result ⊎ Rose (D.faults disk) (D.faults (disk_of result))) }
@@ -91,6 +84,7 @@ impl<D: Disk> Journal<D> {
         ensures any_moment { IfTold (D.reads self.old.disk) (λ content. LeavesOnly D.moment D.left_since self.old.disk self.new.disk (λ c. (records c ≡ records content) ⊎ (records c ≡ records content ++ bytes.now ∷ []))) }
         ensures kept { IfTold (D.reads self.old.disk) (λ _. (s : Story) → IsWhole s → IsKept D.moment D.left_since self.old.disk s → IsKept D.moment D.left_since self.new.disk (told_on s bytes.now result (D.moment self.new.disk))) }
         ensures long { 2 ^ 32 ≤ length bytes.now → WantsMemory result × (self.new.disk ≡ self.old.disk) }
+        ensures far { IfTold (D.reads self.old.disk) (λ content. 2 ^ 64 ≤ length content + (5 + length bytes.now) → WantsMemory result × (self.new.disk ≡ self.old.disk)) }
         ensures later { D.faults self.old.disk ≤ D.faults self.new.disk }
         ensures cause { IsFault result → Rose (D.faults self.old.disk) (D.faults self.new.disk) }
     {

@@ -8,6 +8,8 @@ mod disk;
 mod journal;
 mod mem_disk;
 mod recovery;
+#[cfg(test)]
+mod tests;
 mod writing;
 
 pub use disk::Disk;

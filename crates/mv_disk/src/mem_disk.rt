@@ -16,11 +16,7 @@ use std::marker::Model;
 #[derive(Debug, Drop)]
 pub enum Step {
     /// Of these bytes so many were written, from this place on.
-    Write {
-        at: u64,
-        bytes: Bytes,
-        done: usize,
-    },
+    Write { at: u64, bytes: Bytes, done: usize },
     /// What was read was made to last.
     Sync,
 }
@@ -118,11 +114,7 @@ impl MemDisk {
 }
 
 /// Keeps what there was at first.
-fn keep_first(
-    alloc: Global,
-    first: &mut Option<Bytes>,
-    content: &[u8],
-) -> Result<(), OutOfMemory>
+fn keep_first(alloc: Global, first: &mut Option<Bytes>, content: &[u8]) -> Result<(), OutOfMemory>
     ensures same { first_of first.new content.now ≡ first_of first.old content.now }
     ensures kept { OnOk result (first.new ≡ Some (first_of first.old content.now)) }
 {
@@ -256,14 +248,7 @@ impl Disk for MemDisk {
         let fails = self.fail_write.contains(&number);
         let done = done_of(bytes.len(), fails);
         keep_first(alloc, &mut self.first, self.content.as_slice())?;
-        do_write(
-            alloc,
-            &mut self.content,
-            &mut self.steps,
-            at,
-            bytes,
-            done,
-        )?;
+        do_write(alloc, &mut self.content, &mut self.steps, at, bytes, done)?;
         if fails {
             self.faults = self.faults.saturating_add(1);
             return Err(Or::Fault(Failed));

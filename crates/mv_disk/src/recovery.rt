@@ -48,8 +48,9 @@ fn next_size<D: Disk>(disk: &mut D, at: u64, len: u64) -> Result<Option<u64>, Fa
     }
     let mut head = [0u8; 5];
     disk.read_at(at, &mut head)?;
+    let gate = head[0];
     let size = u32::from_le_bytes([head[1], head[2], head[3], head[4]]) as u64;
-    if head[0] == 1 && size < left - HEAD {
+    if gate == 1 && size < left - HEAD {
         Ok(Some(size))
     } else {
         Ok(None)
@@ -57,12 +58,7 @@ fn next_size<D: Disk>(disk: &mut D, at: u64, len: u64) -> Result<Option<u64>, Fa
 }
 
 /// So many bytes from this place on.
-fn read_body<D: Disk>(
-    alloc: Global,
-    disk: &mut D,
-    at: u64,
-    size: u64,
-) -> Result<Bytes, Or<Failed>>
+fn read_body<D: Disk>(alloc: Global, disk: &mut D, at: u64, size: u64) -> Result<Bytes, Or<Failed>>
     requires { IsInside (D.reads disk.old) at size }
     ensures bytes { IfOk result (λ bytes. IfTold (D.reads disk.old) (λ content. bytes ≡ take size (drop at content))) }
     ensures length { IfOk result (λ bytes. length bytes ≡ size) }

@@ -1,5 +1,5 @@
 //! What a journal writes to its disk.
-ghost use Rattle.std.specs.Prelude.{◌≡◌, ◌≢◌, ◌⊎◌, ◌<◌, ◌≤◌, ◌^◌, ◌++◌, [], ◌∷◌, length, IfOk, OnOk, OnErr, None};
+ghost use Rattle.std.specs.Prelude.{◌≡◌, ◌≢◌, ◌⊎◌, ◌+◌, ◌<◌, ◌≤◌, ◌^◌, ◌++◌, [], ◌∷◌, length, IfOk, OnOk, OnErr, None};
 ghost use Rattle.mv_calls.specs.Or.{IsFault, WantsMemory};
 ghost use Rattle.mv_outside.specs.Causes.{Rose};
 ghost use Rattle.mv_disk.specs.Disk.{IfTold, IsInside, HasLength, IsWritten, IsOnDisk, IsSameDisk, LeavesOnly, Only, Torn};
@@ -62,6 +62,7 @@ pub fn append_at<D: Disk>(
     ensures appended { OnOk result (IfTold (D.reads disk.old) (λ content. HasRecords (D.reads disk.new) (D.may_leave disk.new) (records content ++ body.now ∷ []))) }
     ensures any_moment { IfTold (D.reads disk.old) (λ content. LeavesOnly D.moment D.left_since disk.old disk.new (λ c. (records c ≡ records content) ⊎ (records c ≡ records content ++ body.now ∷ []))) }
     ensures long { 2 ^ 32 ≤ length body.now → WantsMemory result × (disk.new ≡ disk.old) }
+    ensures far { IfTold (D.reads disk.old) (λ content. 2 ^ 64 ≤ length content + (5 + length body.now) → WantsMemory result × (disk.new ≡ disk.old)) }
     ensures later { D.faults disk.old ≤ D.faults disk.new }
     ensures cause { IsFault result → Rose (D.faults disk.old) (D.faults disk.new) }
 {
@@ -70,7 +71,8 @@ pub fn append_at<D: Disk>(
         Some(next) => next,
         None => return Err(Or::OutOfMemory),
     };
-    write_to_last(alloc, disk, end, shut.as_slice())?;
+    let bytes = shut.as_slice();
+    write_to_last(alloc, disk, end, bytes)?;
     write_to_last(alloc, disk, end - 1, &[1])?;
     Ok(next)
 }

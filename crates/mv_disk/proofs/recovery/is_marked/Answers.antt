@@ -13,6 +13,6 @@ pub returns-clause-marked : goal.returns-clause-marked
 returns-clause-marked g c = λ content told.
     let head = c.as_slice.ensures ∙ (c.in_ok-read_at.ensures.bytes content told ∙ ap (λ (n : ℕ). take n content) c.read_at.auto.into) in
     let is : c.eq.result ≡ bytes_eq (take 8 content) mark =
-      c.eq.ensures ∙ (ap (λ (l : List ℕ). bytes_eq l c.as_slice-2.result.now) head ∙ ap (λ (l : List ℕ). bytes_eq (take 8 content) l) c.as_slice-2.ensures) in
+    c.eq.ensures ∙ (ap (λ (l : List ℕ). bytes_eq l c.as_slice-2.result.now) head ∙ ap (λ (l : List ℕ). bytes_eq (take 8 content) l) c.as_slice-2.ensures) in
     let decides = bytes_eq-Decides (take 8 content) mark in
     (λ yes. decides.0 (sym is ∙ yes), λ same. is ∙ decides.1 same)

@@ -16,9 +16,9 @@ records-preserved g c =
       long = λ content told. so_far.long content (sym same.reads_same ∙ told);
       within = omega (arith, inside, body_is);
       found = λ content told.
-        let was = sym same.reads_same ∙ told in
-        let more = found_more content c.records.at c.records.found.items c.push.new.self.items c.in-Some.body (sym c.in-Some.is ∙ c.in_ok-body.ensures.record content was) (so_far.found content was) c.in_ok-push.ensures.items in
-        subst (λ (n : ℕ). c.push.new.self.items ++ records_from (drop (c.records.at + (5 + n)) content) ≡ records_from (drop 8 content)) (sym body_is) more;
+          let was = sym same.reads_same ∙ told in
+          let more = found_more content c.records.at c.records.found.items c.push.new.self.items c.in-Some.body (sym c.in-Some.is ∙ c.in_ok-body.ensures.record content was) (so_far.found content was) c.in_ok-push.ensures.items in
+          subst (λ (n : ℕ). c.push.new.self.items ++ records_from (drop (c.records.at + (5 + n)) content) ≡ records_from (drop 8 content)) (sym body_is) more;
       later = omega (arith, so_far.later, c.next_record.ensures.later);
     }
 

@@ -16,7 +16,7 @@ returns-in_err-write_to_last-clause-any_moment g c = λ blank.
 pub returns-in_err-write_to_last-2-clause-any_moment : goal.returns-in_err-write_to_last-2-clause-any_moment
 returns-in_err-write_to_last-2-clause-any_moment g c = λ blank.
     let one = first_run g.D.Disk.reads g.D.Disk.may_leave g.D.Disk.moment g.D.Disk.left_since g.met.D.Disk.only_now c.args.disk.now c.len.new.self c.write_to_last.new.disk blank c.in-Ok.ensures.same
-      c.write_to_last.ensures.any_moment in
+    c.write_to_last.ensures.any_moment in
     let is = zeros_told _ _ (c.in-Ok.ensures.same.reads_same ∙ blank.0) c.in_ok-write_to_last.ensures.written in
     second_run g.D.Disk.moment g.D.Disk.left_since c.args.disk.now c.write_to_last.new.disk c.write_to_last-2.new.disk one
     (c.write_to_last-2.ensures.any_moment zeros is (c.in_ok-write_to_last.ensures.lasts zeros is))
@@ -24,7 +24,7 @@ returns-in_err-write_to_last-2-clause-any_moment g c = λ blank.
 pub returns-clause-any_moment : goal.returns-clause-any_moment
 returns-clause-any_moment g c = λ blank.
     let one = first_run g.D.Disk.reads g.D.Disk.may_leave g.D.Disk.moment g.D.Disk.left_since g.met.D.Disk.only_now c.args.disk.now c.len.new.self c.write_to_last.new.disk blank c.in-Ok.ensures.same
-      c.write_to_last.ensures.any_moment in
+    c.write_to_last.ensures.any_moment in
     let is = zeros_told _ _ (c.in-Ok.ensures.same.reads_same ∙ blank.0) c.in_ok-write_to_last.ensures.written in
     second_run g.D.Disk.moment g.D.Disk.left_since c.args.disk.now c.write_to_last.new.disk c.write_to_last-2.new.disk one
     (c.write_to_last-2.ensures.any_moment zeros is (c.in_ok-write_to_last.ensures.lasts zeros is))

@@ -14,18 +14,18 @@ pub returns-in_err-self-inside-clause-kept : goal.returns-in_err-self-inside-cla
 returns-in_err-self-inside-clause-kept g c = λ content told s whole kept.
     let same = ap (λ v. v.disk) c.self.view_is in
     let run = subst (λ d. LeavesOnly g.D.Disk.moment g.D.Disk.left_since d c.append_at.new.disk (BeforeOrWith content c.args.bytes.now)) same
-      (c.append_at.ensures.any_moment content (ap g.D.Disk.reads same ∙ told)) in
+    (c.append_at.ensures.any_moment content (ap g.D.Disk.reads same ∙ told)) in
     let failed = err_from_is_err_and c.from_residual.result c.from_residual.ensures.1 in
     subst (λ (r : Result Unit (Or Failed)). IsKept g.D.Disk.moment g.D.Disk.left_since c.append_at.new.disk (told_on s c.args.bytes.now r (g.D.Disk.moment c.append_at.new.disk))) (sym failed.1)
     (kept_err g.D.Disk.reads g.D.Disk.may_leave g.D.Disk.moment g.D.Disk.left_since g.met.D.Disk.leaves_read g.met.D.Disk.counts_now g.met.D.Disk.only_now
-      c.args.self.now.disk c.append_at.new.disk content c.args.bytes.now s told whole kept run)
+    c.args.self.now.disk c.append_at.new.disk content c.args.bytes.now s told whole kept run)
 
 pub returns-clause-kept : goal.returns-clause-kept
 returns-clause-kept g c = λ content told s whole kept.
     let same = ap (λ v. v.disk) c.self.view_is in
     let told_inside = ap g.D.Disk.reads same ∙ told in
     let run = subst (λ d. LeavesOnly g.D.Disk.moment g.D.Disk.left_since d c.append_at.new.disk (BeforeOrWith content c.args.bytes.now)) same
-      (c.append_at.ensures.any_moment content told_inside) in
+    (c.append_at.ensures.any_moment content told_inside) in
     let has = c.in_ok-self-inside.ensures.appended content told_inside in
     kept_ok g.D.Disk.reads g.D.Disk.may_leave g.D.Disk.moment g.D.Disk.left_since g.met.D.Disk.leaves_read g.met.D.Disk.counts_now g.met.D.Disk.only_now
     c.args.self.now.disk c.append_at.new.disk content c.args.bytes.now s told whole kept run

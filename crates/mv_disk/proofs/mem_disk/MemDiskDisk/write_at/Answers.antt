@@ -33,10 +33,11 @@ invariant_of-self-else-fails c =
 pub returns-then-fails-clause-part : goal.returns-then-fails-clause-part
 returns-then-fails-clause-part c =
     let d = (goal.at.returns-then-fails-clause-part c).In_ok-do_write in
-    let piece : List ℕ = take c.done_of-done.result c.args.bytes.now in
-    (with_bytes (content_of c.args.self.now) c.args.at piece,
+    let piece : List ℕ = take c.done_of-done.result c.args.bytes.now in (
+      with_bytes (content_of c.args.self.now) c.args.at piece,
       ap Some (written c.args.self.now _ c.do_write.new.steps.items (first_is d) c.args.at c.args.bytes.now c.done_of-done.result (steps_are d)),
-      torn_by (content_of c.args.self.now) c.args.at (length c.args.bytes.now) piece (omega (arith, length-take c.done_of-done.result c.args.bytes.now)))
+      torn_by (content_of c.args.self.now) c.args.at (length c.args.bytes.now) piece (omega (arith, length-take c.done_of-done.result c.args.bytes.now)),
+    )
 
 pub returns-then-fails-clause-crash : goal.returns-then-fails-clause-crash
 returns-then-fails-clause-crash c =
@@ -52,9 +53,9 @@ pub returns-clause-written : goal.returns-clause-written
 returns-clause-written c =
     let d = (goal.at.returns-clause-written c).In_ok-do_write in
     let all : c.done_of-done.result ≡ length c.args.bytes.now =
-      c.done_of-done.ensures ∙ ap (λ b. cond b (length c.args.bytes.now / 2) (length c.args.bytes.now)) c.if-fails.false in
+    c.done_of-done.ensures ∙ ap (λ b. cond b (length c.args.bytes.now / 2) (length c.args.bytes.now)) c.if-fails.false in
     ap Some (written c.args.self.now _ c.do_write.new.steps.items (first_is d) c.args.at c.args.bytes.now c.done_of-done.result (steps_are d)
-      ∙ ap (λ l. with_bytes (content_of c.args.self.now) c.args.at l) (take_all c.done_of-done.result c.args.bytes.now (omega arith)))
+    ∙ ap (λ l. with_bytes (content_of c.args.self.now) c.args.at l) (take_all c.done_of-done.result c.args.bytes.now (omega arith)))
 
 pub returns-clause-crash : goal.returns-clause-crash
 returns-clause-crash c =
