@@ -1,6 +1,6 @@
 -- What the two writes of an append leave.
-use Rattle.std.proofs.Common.{◌≡◌, ◌⊎◌, inl, inr, ⊎_elim, ℕ, ◌+◌, ◌-◌, ◌^◌, ◌<◌, ◌≤◌, max, List, [], ◌∷◌, ◌++◌, length, get_or, take, drop, refl, sym, ◌∙◌, ap, subst, arith, append_assoc, length-append, take-append-drop}
-use Rattle.std.specs.List.{flat_map, All}
+use Rattle.std.proofs.Common.{◌≡◌, ◌⊎◌, inl, inr, ⊎_elim, ℕ, ◌+◌, ◌-◌, ◌^◌, ◌<◌, List, [], ◌∷◌, ◌++◌, length, get_or, take, drop, sym, ◌∙◌, ap, subst, arith, append_assoc, length-append, take-append-drop}
+use Rattle.std.specs.List.{flat_map}
 use Rattle.std.proofs.lemmas.Bool.{cases_eq}
 use Rattle.std.proofs.lemmas.Grind.{flat_map-append}
 use Rattle.std.proofs.lemmas.List.{append-nil, take_all, take_at, drop_at, drop_more}
@@ -8,7 +8,7 @@ use Rattle.std.proofs.lemmas.List.Elements.{All-push}
 use Rattle.mv_disk.specs.Disk.{Torn, Only, with_bytes}
 use Rattle.mv_disk.specs.Records.{mark, records}
 use Rattle.mv_disk.specs.Journal.{sized, row, at_rest, IsAtRest}
-use Rattle.mv_disk.proofs.RecordLaws.{records-shut, records-more, records-at_rest, length-sized}
+use Rattle.mv_disk.proofs.RecordLaws.{records-shut, records-more, records-at_rest}
 use Rattle.mv_disk.proofs.TornLaws.{front_same, back_same, with_bytes-end, with_bytes-one}
 
 abbrev Short : List ℕ → Type 0

@@ -1,12 +1,11 @@
 -- The two writes of an append, one after the other.
-use Rattle.std.proofs.Common.{◌≡◌, ◌⊎◌, inl, inr, ℕ, ◌+◌, ◌-◌, ◌^◌, ◌<◌, ◌≤◌, List, [], ◌∷◌, ◌++◌, length, Option, Some, sym, ◌∙◌, ap, subst, arith, length-append}
+use Rattle.std.proofs.Common.{◌≡◌, ◌⊎◌, inl, ℕ, ◌+◌, ◌-◌, ◌^◌, ◌<◌, ◌≤◌, List, [], ◌∷◌, ◌++◌, length, Option, Some, sym, ◌∙◌, ap, arith, length-append}
 use Rattle.std.specs.Option.{option_map}
-use Rattle.mv_disk.specs.Disk.{IsOnDisk, LeavesOnly, Only, Torn, with_bytes}
+use Rattle.mv_disk.specs.Disk.{LeavesOnly, Torn, with_bytes}
 use Rattle.mv_disk.specs.Records.{records}
 use Rattle.mv_disk.specs.Journal.{sized, at_rest, IsAtRest}
-use Rattle.mv_disk.specs.Kept.{HasRecords}
-use Rattle.mv_disk.proofs.AppendLaws.{with_record, staged, torn_behind, torn_gate, opened, rests, holds_more}
-use Rattle.mv_disk.proofs.Moments.{both_runs, one_run, told_back}
+use Rattle.mv_disk.proofs.AppendLaws.{with_record, staged, torn_behind, torn_gate, opened}
+use Rattle.mv_disk.proofs.Moments.{both_runs, one_run}
 use Rattle.mv_disk.proofs.TornLaws.{with_bytes-end}
 
 -- the records are as they were, or with this one

@@ -1,5 +1,5 @@
 -- One step more of a disk in memory.
-use Rattle.std.proofs.Common.{◌≡◌, ◌↔◌, inl, inr, ⊎_elim, ℕ, zero, suc, ◌+◌, ◌<◌, ◌≤◌, Bool, true, false, IsTrue, List, [], ◌∷◌, ◌++◌, length, take, Option, Some, None, Result, Err, refl, sym, ◌∙◌, ap, subst, arith, length-append, length-take}
+use Rattle.std.proofs.Common.{◌≡◌, ◌↔◌, inl, inr, ⊎_elim, ℕ, ◌+◌, ◌≤◌, Bool, true, false, IsTrue, List, [], ◌∷◌, ◌++◌, length, take, Result, Err, refl, sym, ◌∙◌, ap, subst, arith, length-append}
 use Rattle.std.proofs.lemmas.Bool.{cases_lt}
 use Rattle.std.proofs.lemmas.List.{take_all, take-append-le}
 use Rattle.mv_calls.specs.Or.{IsFault}
@@ -7,7 +7,6 @@ use Rattle.mv_calls.specs.declared.fault.Or.{Or}
 use Rattle.mv_calls.specs.declared.fault.Or.TheVariants.{OutOfMemory}
 use Rattle.mv_outside.specs.declared.fault.Failed.{Failed}
 use Rattle.mv_disk.specs.Disk.{Elapses, Follows, Only, Torn, with_bytes}
-use Rattle.mv_disk.specs.First.{first_of}
 use Rattle.mv_disk.specs.MemDisk.{DiskState, content_after, OutcomesAfter, MayLeave, content_of, LeavesNow, moment_of, LeftSince}
 use Rattle.mv_disk.specs.declared.mem_disk.Step.{Step}
 use Rattle.mv_disk.specs.declared.mem_disk.Step.TheVariants as step

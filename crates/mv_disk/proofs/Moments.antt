@@ -1,5 +1,5 @@
 -- Runs of calls, and what a crash during them leaves.
-use Rattle.std.proofs.Common.{◌≡◌, inl, inr, ⊎_elim, ◌⊎◌, ℕ, ◌≤◌, List, Option, Some, None, refl, subst, arith}
+use Rattle.std.proofs.Common.{◌≡◌, inl, inr, ⊎_elim, ℕ, List, Option, Some, None, refl, arith}
 use Rattle.std.specs.Option.{option_map}
 use Rattle.mv_disk.specs.Disk.{IsSameDisk, LeavesOnly}
 

@@ -1,6 +1,5 @@
 -- What the two writes on an empty disk leave.
-use Rattle.std.proofs.Common.{◌≡◌, ℕ, ◌+◌, ◌-◌, ◌^◌, ◌<◌, ◌≤◌, max, List, [], ◌∷◌, ◌++◌, length, take, drop, Option, Some, refl, sym, ◌∙◌, ap, arith, length-drop}
-use Rattle.std.specs.List.{All}
+use Rattle.std.proofs.Common.{◌≡◌, ℕ, ◌^◌, ◌<◌, List, [], ◌∷◌, length, drop, Option, Some, refl, sym, ◌∙◌, ap, arith, length-drop}
 use Rattle.std.specs.Option.{option_map}
 use Rattle.std.proofs.lemmas.List.Elements.{All-nil}
 use Rattle.mv_disk.specs.Disk.{IsSameDisk, LeavesOnly, Torn, Only, with_bytes}

@@ -1,9 +1,9 @@
 -- What a journal keeps goes on from append to append.
-use Rattle.std.proofs.Common.{◌≡◌, ◌⊎◌, inl, inr, ⊎_elim, ℕ, zero, suc, ◌+◌, ◌-◌, ◌<◌, ◌≤◌, min, List, [], ◌∷◌, ◌++◌, length, get_or, take, Option, Some, Result, Ok, Err, refl, sym, ◌∙◌, ap, subst, arith, length-append, length-take}
+use Rattle.std.proofs.Common.{◌≡◌, ⊎_elim, ℕ, ◌+◌, ◌-◌, ◌<◌, ◌≤◌, List, [], ◌∷◌, ◌++◌, length, get_or, take, Option, Some, sym, ◌∙◌, ap, subst, arith, length-append, length-take}
 use Rattle.std.proofs.lemmas.Bool.{cases_eq}
-use Rattle.std.proofs.lemmas.List.{append-nil, take_all, take_at, take-append-le, get_or_append_left, get_or_at}
+use Rattle.std.proofs.lemmas.List.{take_all, take-append-le, get_or_append_left, get_or_at}
 use Rattle.mv_disk.specs.Disk.{LeavesOnly}
-use Rattle.mv_disk.specs.Kept.{Story, IsWhole, IsKept, new_story, told_on}
+use Rattle.mv_disk.specs.Kept.{Story, IsWhole, IsKept, new_story}
 use Rattle.mv_disk.specs.Records.{records}
 use Rattle.mv_disk.proofs.AppendRuns.{BeforeOrWith}
 

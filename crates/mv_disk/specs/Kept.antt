@@ -2,7 +2,7 @@
 use Rattle.std.specs.Prelude.{◌≡◌, ℕ, ◌+◌, ◌<◌, ◌≤◌, List, [], ◌∷◌, ◌++◌, length, take, slice_index, Option, Some, Result, Ok, Err}
 use Rattle.mv_calls.specs.declared.fault.Or.{Or}
 use Rattle.mv_outside.specs.declared.fault.Failed.{Failed}
-use Rattle.mv_disk.specs.Disk.{IfTold, Only}
+use Rattle.mv_disk.specs.Disk.{Only}
 use Rattle.mv_disk.specs.Records.{records}
 
 -- it reads no bytes, and a crash leaves none

@@ -1,5 +1,5 @@
 -- What a disk in memory tells is lawful.
-use Rattle.std.specs.Prelude.{◌≡◌, ℕ, ◌+◌, ◌-◌, ◌<◌, ◌≤◌, min, List, [], ◌∷◌, ◌++◌, take, drop, length, Some, refl}
+use Rattle.std.specs.Prelude.{◌≡◌, ℕ, ◌+◌, ◌-◌, ◌≤◌, min, List, [], ◌∷◌, ◌++◌, take, drop, length, Some, refl}
 use Rattle.std.proofs.Common.{arith, sym, ◌∙◌, ap, subst, get_or, length-append, length-take, length-drop}
 use Rattle.std.proofs.lemmas.List.{take_all, get_or_append_left, get_or-append_right, get_or-take, get_or-drop}
 use Rattle.mv_disk.specs.Disk.{Torn, with_bytes}

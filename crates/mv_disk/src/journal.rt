@@ -61,12 +61,12 @@ impl<D: Disk> Journal<D> {
     {
         let mut disk = disk;
         match prepare(alloc, &mut disk) {
-            Ok(0) => Made::Journal(Journal {
+            Ok(None) => Made::Journal(Journal {
                 disk,
                 end: FIRST_END,
                 failed: false,
             }),
-            Ok(len) => Made::Used { disk, len },
+            Ok(Some(len)) => Made::Used { disk, len },
             Err(Or::Fault(Failed)) => Made::Failed { disk },
             Err(Or::OutOfMemory) => Made::Memory { disk },
         }

@@ -1,5 +1,5 @@
 //! What a journal writes to its disk.
-ghost use Rattle.std.specs.Prelude.{◌≡◌, ◌≢◌, ◌⊎◌, ◌+◌, ◌<◌, ◌≤◌, ◌^◌, ◌++◌, [], ◌∷◌, length, IfOk, OnOk, OnErr, None};
+ghost use Rattle.std.specs.Prelude.{◌≡◌, ◌≢◌, ◌⊎◌, ◌+◌, ◌<◌, ◌≤◌, ◌^◌, ◌++◌, [], ◌∷◌, length, unwrap_or, IfOk, IfSome, IfNone, OnOk};
 ghost use Rattle.mv_calls.specs.Or.{IsFault, WantsMemory};
 ghost use Rattle.mv_outside.specs.Causes.{Rose};
 ghost use Rattle.mv_disk.specs.Disk.{IfTold, IsInside, HasLength, IsWritten, IsOnDisk, IsSameDisk, LeavesOnly, Only, Torn};
@@ -77,13 +77,13 @@ pub fn append_at<D: Disk>(
     Ok(next)
 }
 
-/// Makes an empty disk ready for records, and answers 0; of another disk it answers the length, and writes nothing.
-pub fn prepare<D: Disk>(alloc: Global, disk: &mut D) -> Result<u64, Or<Failed>>
-    ensures length { IfOk result (HasLength (D.reads disk.old)) }
+/// Makes an empty disk ready for records. Of another disk it answers the length, and writes nothing.
+pub fn prepare<D: Disk>(alloc: Global, disk: &mut D) -> Result<Option<u64>, Or<Failed>>
+    ensures length { IfOk result (λ used. HasLength (D.reads disk.old) (unwrap_or used 0)) }
+    ensures used { IfOk result (λ used. IfSome used (λ len. (len ≢ 0) × IsSameDisk D.reads D.may_leave D.moment D.left_since disk.old disk.new)) }
+    ensures at_rest { IfOk result (λ used. IfNone used (IfTold (D.reads disk.new) (IsAtRest 9 (D.may_leave disk.new)))) }
+    ensures ready { IfOk result (λ used. IfNone used (IfTold (D.reads disk.old) (λ _. HasRecords (D.reads disk.new) (D.may_leave disk.new) []))) }
     ensures memory { WantsMemory result → HasLength (D.reads disk.old) 0 }
-    ensures used { IfOk result (λ len. len ≢ 0 → IsSameDisk D.reads D.may_leave D.moment D.left_since disk.old disk.new) }
-    ensures at_rest { IfOk result (λ len. len ≡ 0 → IfTold (D.reads disk.new) (IsAtRest 9 (D.may_leave disk.new))) }
-    ensures ready { IfOk result (λ len. len ≡ 0 → IfTold (D.reads disk.old) (λ _. HasRecords (D.reads disk.new) (D.may_leave disk.new) [])) }
     ensures any_moment { IsBlank (D.reads disk.old) (D.may_leave disk.old) → LeavesOnly D.moment D.left_since disk.old disk.new (λ c. records c ≡ []) }
     ensures later { D.faults disk.old ≤ D.faults disk.new }
     ensures cause { IsFault result → Rose (D.faults disk.old) (D.faults disk.new) }
@@ -93,10 +93,10 @@ pub fn prepare<D: Disk>(alloc: Global, disk: &mut D) -> Result<u64, Or<Failed>>
         Err(Failed) => return Err(Or::Fault(Failed)),
     };
     if len != 0 {
-        return Ok(len);
+        return Ok(Some(len));
     }
     // The first gate is closed on the disk before the mark lets it count.
     write_to_last(alloc, disk, 0, &[0; 9])?;
     write_to_last(alloc, disk, 0, &MARK)?;
-    Ok(0)
+    Ok(None)
 }

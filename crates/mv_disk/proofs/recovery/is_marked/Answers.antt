@@ -1,5 +1,5 @@
 -- A short content has no mark.
-use Rattle.std.proofs.Common.{◌≡◌, ℕ, List, length, take, Bool, true, false, IsTrue, sym, ◌∙◌, ap, arith, length-take}
+use Rattle.std.proofs.Common.{◌≡◌, ℕ, List, length, take, true, false, IsTrue, sym, ◌∙◌, ap, arith, length-take}
 use Rattle.std.specs.Str.{bytes_eq}
 use Rattle.std.proofs.lemmas.Slice.Eq.{bytes_eq-Decides}
 use Rattle.mv_disk.specs.Records.{mark}

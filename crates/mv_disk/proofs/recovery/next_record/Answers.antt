@@ -1,5 +1,5 @@
 -- The body that was read is the record's.
-use Rattle.std.proofs.Common.{◌≡◌, ◌+◌, List, Some, sym, ◌∙◌, ap}
+use Rattle.std.proofs.Common.{Some, sym, ◌∙◌, ap}
 use Rattle.mv_disk.proofs.ReadLaws.{read_record}
 use Rattle.mv_disk.proofs.recovery.next_record.Goals as goal
 

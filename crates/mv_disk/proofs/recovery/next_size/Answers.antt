@@ -1,5 +1,5 @@
 -- The head of a record, as the code reads it.
-use Rattle.std.proofs.Common.{◌≡◌, ◌<◌, ℕ, List, length, take, drop, Some, sym, ◌∙◌, ap, arith, length-drop}
+use Rattle.std.proofs.Common.{◌<◌, ℕ, length, take, drop, sym, ◌∙◌, ap, arith, length-drop}
 use Rattle.std.specs.Option.{option_map}
 use Rattle.mv_disk.proofs.ReadLaws.{read_open, read_shut, read_long}
 use Rattle.mv_disk.proofs.RecordLaws.{front_body-short}

@@ -1,5 +1,5 @@
 -- Each turn reads one record.
-use Rattle.std.proofs.Common.{◌≡◌, ◌+◌, ◌++◌, ◌∷◌, [], ℕ, List, length, drop, Some, sym, ◌∙◌, ap, arith, subst}
+use Rattle.std.proofs.Common.{◌≡◌, ◌+◌, ◌++◌, ℕ, length, drop, sym, ◌∙◌, ap, arith, subst}
 use Rattle.mv_disk.specs.Records.{records_from}
 use Rattle.mv_disk.proofs.ReadLaws.{found_more, found_all}
 use Rattle.mv_disk.proofs.SameLaws.{same_twice}

@@ -1,5 +1,5 @@
 -- What was found and what is still to come are the records behind the mark.
-use Rattle.std.proofs.Common.{◌≡◌, ◌-◌, ◌≤◌, ◌++◌, ℕ, drop}
+use Rattle.std.proofs.Common.{◌≡◌, ◌-◌, ◌≤◌, ◌++◌, drop}
 use Rattle.mv_disk.specs.Disk.{HasLength, IfTold, IsSameDisk}
 use Rattle.mv_disk.specs.Records.{records_from}
 use Rattle.mv_disk.proofs.recovery.records_behind.Given as goal

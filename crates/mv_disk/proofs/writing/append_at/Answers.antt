@@ -1,10 +1,9 @@
 -- The record is whole on the disk before its gate is opened.
-use Rattle.std.proofs.Common.{◌≡◌, ◌+◌, ◌-◌, ◌^◌, ◌<◌, ◌≤◌, ℕ, List, [], ◌∷◌, ◌++◌, length, Option, Some, sym, ◌∙◌, ap, subst, arith, inl, length-append}
-use Rattle.mv_disk.specs.Disk.{Torn, LeavesOnly, Only}
+use Rattle.std.proofs.Common.{◌≡◌, ◌+◌, ◌^◌, ◌≤◌, ℕ, List, [], ◌∷◌, ◌++◌, length, Some, sym, ◌∙◌, ap, arith, inl, length-append}
 use Rattle.mv_disk.specs.Records.{records}
-use Rattle.mv_disk.specs.Journal.{sized, at_rest, IsAtRest}
+use Rattle.mv_disk.specs.Journal.{sized, at_rest}
 use Rattle.mv_disk.proofs.Moments.{no_call, told_back}
-use Rattle.mv_disk.proofs.AppendLaws.{rests, holds_more, with_record}
+use Rattle.mv_disk.proofs.AppendLaws.{rests, holds_more}
 use Rattle.mv_disk.proofs.AppendRuns.{BeforeOrWith, staged_told, opened_told, gate_inside, first_run, second_run}
 use Rattle.mv_disk.proofs.writing.append_at.Given.{Over}
 use Rattle.mv_disk.proofs.writing.append_at.Goals as goal

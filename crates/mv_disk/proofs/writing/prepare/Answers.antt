@@ -1,10 +1,7 @@
 -- The first gate is closed on the disk before the mark is there.
-use Rattle.std.proofs.Common.{◌≡◌, ℕ, List, [], ◌∷◌, length, Option, Some, refl, sym, ◌∙◌, ap, subst, arith}
-use Rattle.std.specs.Option.{option_map}
-use Rattle.mv_disk.specs.Disk.{LeavesOnly, Only, Torn, with_bytes}
+use Rattle.std.proofs.Common.{◌≡◌, [], Some, refl, sym, ◌∙◌, ap}
 use Rattle.mv_disk.specs.Journal.{at_rest}
-use Rattle.mv_disk.specs.Records.{mark, records}
-use Rattle.mv_disk.proofs.Moments.{unchanged, both_runs, told_back}
+use Rattle.mv_disk.proofs.Moments.{told_back}
 use Rattle.mv_disk.proofs.PrepareLaws.{zeros, first_run, second_run, empty_told, zeros_told, marked_told, rests_empty, holds_none}
 use Rattle.mv_disk.proofs.writing.prepare.Goals as goal
 
@@ -30,7 +27,7 @@ returns-clause-any_moment g c = λ blank.
     (c.write_to_last-2.ensures.any_moment zeros is (c.in_ok-write_to_last.ensures.lasts zeros is))
 
 pub returns-clause-at_rest : goal.returns-clause-at_rest
-returns-clause-at_rest g c = λ _ new told.
+returns-clause-at_rest g c = λ new told.
     let mid = told_back _ _ _ new c.in_ok-write_to_last-2.ensures.written told in
     let back = told_back _ _ _ mid.0 c.in_ok-write_to_last.ensures.written mid.1 in
     let was = sym c.in-Ok.ensures.same.reads_same ∙ back.1 in
@@ -42,7 +39,7 @@ returns-clause-at_rest g c = λ _ new told.
     rests_empty _ new new_is (c.in_ok-write_to_last-2.ensures.lasts new told)
 
 pub returns-clause-ready : goal.returns-clause-ready
-returns-clause-ready g c = λ _ content told.
+returns-clause-ready g c = λ content told.
     let none = empty_told content (sym (c.in-Ok.ensures.length content told) ∙ c.if-len-ne0.false) in
     let is = zeros_told _ _ (c.in-Ok.ensures.same.reads_same ∙ (told ∙ ap Some none)) c.in_ok-write_to_last.ensures.written in
     let done = marked_told _ _ is c.in_ok-write_to_last-2.ensures.written in

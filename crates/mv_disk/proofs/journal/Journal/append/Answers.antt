@@ -1,5 +1,5 @@
 -- The story goes on.
-use Rattle.std.proofs.Common.{◌≡◌, ℕ, List, Result, Some, sym, ◌∙◌, ap, subst}
+use Rattle.std.proofs.Common.{Result, sym, ◌∙◌, ap, subst}
 use Rattle.std.proofs.lemmas.Result.{err_from_is_err_and}
 use Rattle.mv_calls.specs.declared.fault.Or.{Or}
 use Rattle.mv_outside.specs.declared.fault.Failed.{Failed}

@@ -1,5 +1,5 @@
 -- After a sync a crash leaves what is read.
-use Rattle.std.proofs.Common.{◌≡◌, List, ℕ, [], ◌∷◌, ◌++◌, Some, refl, sym, ◌∙◌, ap, subst, rules, arith}
+use Rattle.std.proofs.Common.{◌≡◌, [], ◌∷◌, ◌++◌, Some, refl, sym, ◌∙◌, ap, subst, rules, arith}
 use Rattle.std.proofs.lemmas.Grind.{common_steps}
 use Rattle.mv_disk.specs.First.{first_of}
 use Rattle.mv_disk.specs.MemDisk.{sync_fails, content_of, LeavesNow}

@@ -1,5 +1,5 @@
 -- A write, done whole or in part, is one step more.
-use Rattle.std.proofs.Common.{◌≡◌, ◌+◌, ◌/◌, ℕ, Bool, cond, List, [], ◌∷◌, ◌++◌, Some, sym, ◌∙◌, ap, arith, length, take, length-take}
+use Rattle.std.proofs.Common.{◌≡◌, ◌/◌, ℕ, cond, List, [], ◌∷◌, ◌++◌, Some, sym, ◌∙◌, ap, arith, length, take, length-take}
 use Rattle.std.proofs.lemmas.List.{take_all}
 use Rattle.mv_disk.specs.Disk.{with_bytes}
 use Rattle.mv_disk.specs.First.{first_of}
