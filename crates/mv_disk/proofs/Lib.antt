@@ -1,10 +1,10 @@
 mod AppendLaws
 mod AppendRuns
 mod MemLaws
-mod Moments
+pub mod Moments
 mod PrepareLaws
 mod ReadLaws
 mod RecordLaws
 mod SameLaws
-mod StoryLaws
+pub mod StoryLaws
 mod TornLaws

@@ -15,7 +15,8 @@ front_body (gate ∷ rest) =
     let size = from_le_bytes w32 rest in
     if (gate == 1) && nat_lt (4 + size) (length rest) then Some (take size (drop 4 rest)) else None
 
--- The records from here on, up to the first that doesn't count; the number bounds how many there can be.
+-- The records from here on, up to the first that doesn't count. The number bounds how many there can be, and is no matter where
+-- it is as large as the number of bytes.
 unfoldable pub records_within : ℕ → List ℕ → List (List ℕ)
 records_within zero rest = []
 records_within (suc n) rest = option_map_or (λ body. body ∷ records_within n (drop (5 + length body) rest)) (front_body rest) []

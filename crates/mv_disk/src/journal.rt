@@ -35,6 +35,7 @@ impl<D: Disk> Model for Journal<D> {
 /// What came of making a journal. The disk is handed back with every answer.
 #[derive(Drop)]
 pub enum Made<D: Disk> {
+    /// A journal without a record.
     Journal(Journal<D>),
     /// The disk isn't empty: it has this length.
     Used { disk: D, len: u64 },
