@@ -1,5 +1,5 @@
 //! Turns over a small guest, where an answer's memory is wanted at first.
-ghost use Rattle.std.specs.Prelude.{◌≡◌, ◌∷◌, [], None, false, Ok, refl};
+ghost use Rattle.std.specs.Prelude.{◌≡◌, ◌≤◌, ◌∷◌, [], None, true, false, IfOk, Ok, refl};
 ghost use Rattle.std.proofs.Common.{lit<};
 ghost use Rattle.mv_calls.specs.declared.calls.Call.TheVariants as call;
 ghost use Rattle.mv_core.specs.Sound.{BeginsWith, IsNewRun};
@@ -198,41 +198,58 @@ fn turns<V: Version, K: Kernel, C: Console, F: Files>(
     turned::<V, K, C, F, Brand>(alloc, guest, log, kernel, console, files)
 }
 
-#[test]
-fn a_line_waits_for_memory_and_a_copy_does_not(rt: HostRuntime) -> Result<(), Fail> {
-    let alloc = rt.alloc();
+/// The log of a run that begins.
+fn new_log(alloc: Global) -> Result<Log, OutOfMemory>
+    ensures { IfOk result (λ log. (log.entries.list ≡ []) × (log.updates.list ≡ []) × (3 ≤ log.entries.room)) }
+{
     let start = Start {
         module: Bytes::from_slice(alloc, b"a")?,
         args: Texts::from_vec(Vec::new(alloc)),
     };
-    let log = Log::make(alloc, start)?;
+    Log::make(alloc, start)
+}
+
+/// The file that the order names.
+fn one_file(alloc: Global) -> Result<MemFiles, OutOfMemory> {
     let mut named = Vec::new(alloc);
     named.push(FileAt {
         path: Bytes::from_slice(alloc, b"a")?,
         bytes: Bytes::from_slice(alloc, b"module")?,
     })?;
-    let files = MemFiles::new(named, Vec::new(alloc), Vec::new(alloc));
+    Ok(MemFiles::new(named, Vec::new(alloc), Vec::new(alloc)))
+}
+
+/// What an entry is called.
+fn name(entry: &Entry) -> char {
+    match entry {
+        Entry::Order {
+            reply: OrderReply::Accepted { update: 1, .. },
+            ..
+        } => 'o',
+        Entry::Mark(Mark::NoCopy { update: 1 }) => 'n',
+        Entry::Point => 'p',
+        Entry::Call { .. } => 'c',
+        Entry::Mark(Mark::End { how: How::Ended(0) }) => 'e',
+        _ => '?',
+    }
+}
+
+#[test]
+fn a_line_waits_for_memory_and_a_copy_does_not(rt: HostRuntime) -> Result<(), Fail> {
+    let alloc = rt.alloc();
     let console = Shy {
         looks: 0,
         refusals: 1,
         place: 0,
     };
+    let log = new_log(alloc)?;
+    let files = one_file(alloc)?;
     let (wanted, log) = turns(alloc, Small::Begins, log, Plain, console, files);
     assert_eq!(rt; wanted, 1);
-    assert!(rt;
-        matches!(
-            log.entries.slice(),
-            [
-                Entry::Order {
-                    reply: OrderReply::Accepted { update: 1, .. },
-                    ..
-                },
-                Entry::Mark(Mark::NoCopy { update: 1 }),
-                Entry::Point,
-                Entry::Call { .. },
-                Entry::Mark(Mark::End { how: How::Ended(0) }),
-            ]
-        )
-    );
+    let mut words = String::new(alloc);
+    for entry in log.entries.slice() {
+        words.push(name(entry))?;
+    }
+    assert_eq!(rt; words.as_str(), "onpce");
     Ok(())
 }

@@ -1,5 +1,5 @@
 //! Whole runs of a small guest, over the objects in memory.
-ghost use Rattle.std.specs.Prelude.{◌≡◌, ◌==◌, ◌∷◌, [], Ok, Err, cond, refl};
+ghost use Rattle.std.specs.Prelude.{◌≡◌, ◌==◌, ◌≤◌, ◌∷◌, [], IfOk, Ok, Err, cond, refl};
 ghost use Rattle.std.proofs.Common.{lit<};
 ghost use Rattle.mv_calls.specs.declared.calls.Call.TheVariants as call;
 ghost use Rattle.mv_calls.specs.declared.trap.Trap.TheVariants as trap;
@@ -166,31 +166,33 @@ const REVERSE: &[u8] = b"mvrules 1\nrule\nwrite $f \"b\" -> all\nto\nwrite $f \"
 
 const READS: &[u8] = b"mvrules 1\nrule\nread $f -> @x\nto\nend\n";
 
-/// The files that the orders name.
-fn files(alloc: Global, fail_read: u64) -> Result<MemFiles, Fail> {
-    let mut list = Vec::new(alloc);
-    let named: [(&[u8], &[u8]); 7] = [
-        (b"a", b"a"),
-        (b"b", b"b"),
-        (b"bang", b"!"),
-        (b"empty", b""),
-        (b"fwd", FORWARD),
-        (b"rev", REVERSE),
-        (b"drops", READS),
-    ];
-    for (path, bytes) in &named {
-        list.push(FileAt {
-            path: Bytes::from_slice(alloc, path)?,
-            bytes: Bytes::from_slice(alloc, bytes)?,
-        })?;
-    }
-    Ok(MemFiles::new(list, vec![in alloc; fail_read]?, Vec::new(alloc)))
+/// A file.
+fn file(alloc: Global, path: &[u8], bytes: &[u8]) -> Result<FileAt, OutOfMemory> {
+    Ok(FileAt {
+        path: Bytes::from_slice(alloc, path)?,
+        bytes: Bytes::from_slice(alloc, bytes)?,
+    })
 }
 
-/// A console that hands on these lines, one a look; an empty one stands for a look at which nothing has come.
-fn console(alloc: Global, lines: &[&[u8]]) -> Result<MemConsole, Fail> {
+/// The files that the orders name; the read number `fail_read` fails.
+fn files(alloc: Global, fail_read: u64) -> Result<MemFiles, OutOfMemory> {
     let mut list = Vec::new(alloc);
-    for line in lines {
+    list.push(file(alloc, b"a", b"a")?)?;
+    list.push(file(alloc, b"b", b"b")?)?;
+    list.push(file(alloc, b"bang", b"!")?)?;
+    list.push(file(alloc, b"empty", b"")?)?;
+    list.push(file(alloc, b"fwd", FORWARD)?)?;
+    list.push(file(alloc, b"rev", REVERSE)?)?;
+    list.push(file(alloc, b"drops", READS)?)?;
+    let mut failing = Vec::new(alloc);
+    failing.push(fail_read)?;
+    Ok(MemFiles::new(list, failing, Vec::new(alloc)))
+}
+
+/// A console that hands on the lines between bars, one a look; an empty one stands for a look at which nothing has come.
+fn console(alloc: Global, lines: &[u8]) -> Result<MemConsole, OutOfMemory> {
+    let mut list = Vec::new(alloc);
+    for line in lines.split(|b| *b == b'|') {
         if line.is_empty() {
             list.push(None)?;
         } else {
@@ -256,7 +258,7 @@ fn name(entry: &Entry) -> &'static str {
 }
 
 /// The beats of some letters.
-fn beats(alloc: Global, letters: &[u8]) -> Result<Vec<Beat>, Fail> {
+fn beats(alloc: Global, letters: &[u8]) -> Result<Vec<Beat>, OutOfMemory> {
     let mut list = Vec::new(alloc);
     for letter in letters {
         list.push(match *letter {
@@ -269,21 +271,29 @@ fn beats(alloc: Global, letters: &[u8]) -> Result<Vec<Beat>, Fail> {
     Ok(list)
 }
 
+/// The log of a run of the letter's guest that begins.
+fn new_log(alloc: Global, letter: u8) -> Result<Log, OutOfMemory>
+    ensures module { IfOk result (λ log. log.start.«module» ≡ letter ∷ []) }
+    ensures new { IfOk result (λ log. (log.entries.list ≡ []) × (log.updates.list ≡ []) × (3 ≤ log.entries.room)) }
+{
+    let start = Start {
+        module: Bytes::from_slice(alloc, &[letter])?,
+        args: Texts::from_vec(Vec::new(alloc)),
+    };
+    Log::make(alloc, start)
+}
+
 /// A rehearsal of the letter's guest over a feed of four places. The kernel's call number `fail_call` fails, and the read
 /// number `fail_read` of a file.
 fn rehearsed(
     alloc: Global,
     letter: u8,
-    lines: &[&[u8]],
+    lines: &[u8],
     letters: &[u8],
     fail_call: u64,
     fail_read: u64,
-) -> Result<Outcome<Plain, MemConsole, MemFiles>, Fail> {
-    let start = Start {
-        module: Bytes::from_slice(alloc, &[letter])?,
-        args: Texts::from_vec(Vec::new(alloc)),
-    };
-    let log = Log::make(alloc, start)?;
+) -> Result<Outcome<Plain, MemConsole, MemFiles>, OutOfMemory> {
+    let log = new_log(alloc, letter)?;
     let kernel = Plain {
         calls: 0,
         fail: fail_call,
@@ -305,7 +315,7 @@ fn rehearsed(
 }
 
 /// The entries of a log, a word each.
-fn words(alloc: Global, log: &Log) -> Result<String, Fail> {
+fn words(alloc: Global, log: &Log) -> Result<String, OutOfMemory> {
     let mut words = String::new(alloc);
     for entry in log.entries.slice() {
         words.push_str(name(entry))?;
@@ -314,79 +324,106 @@ fn words(alloc: Global, log: &Log) -> Result<String, Fail> {
     Ok(words)
 }
 
+/// Whether the rehearsal has these entries and this status.
+fn comes_to(
+    alloc: Global,
+    letter: u8,
+    lines: &[u8],
+    letters: &[u8],
+    fail_call: u64,
+    want: &str,
+    status: u8,
+) -> Result<bool, OutOfMemory> {
+    let outcome = rehearsed(alloc, letter, lines, letters, fail_call, 99)?;
+    Ok(words(alloc, &outcome.log)?.as_str() == want && outcome.status == status)
+}
+
+/// Whether the operator is told this, where the read of a file with this number fails.
+fn is_told(
+    alloc: Global,
+    lines: &[u8],
+    letters: &[u8],
+    fail_read: u64,
+    want: &[u8],
+) -> Result<bool, OutOfMemory> {
+    let outcome = rehearsed(alloc, b'a', lines, letters, 99, fail_read)?;
+    Ok(outcome.console.said() == want)
+}
+
 /// A turn, all that may come of it, and a judgement; often enough for each row.
 const BLOCKS: &[u8] = b"LCFFFJLCFFFJLCFFFJLCFFFJLCFFFJLCFFFJLCFFFJLCFFFJLCFFFJLCFFFJLCFFFJLCFFFJ";
 
 #[test]
 fn updates_end_as_they_are_to(rt: HostRuntime) -> Result<(), Fail> {
     let alloc = rt.alloc();
-    let rows: [(u8, &[&[u8]], &str, u8); 11] = [
+    let rows: [(u8, &str, &str, u8); 11] = [
         // no update
-        (b'a', &[], "Point Call Call Ended ", 0),
-        (b'!', &[], "Point Call Trapped ", 5),
+        (b'a', "", "Point Call Call Ended ", 0),
+        (b'!', "", "Point Call Trapped ", 5),
         // promoted and finished; rolled back
         (
             b'a',
-            &[b"update a none none", b"", b"promote", b"", b"finish"],
+            "update a none none||promote||finish",
             "Order Fork Order Hand Promote Order Finish Point Call Call Ended ",
             0,
         ),
         (
             b'a',
-            &[b"update a none none", b"", b"promote", b"", b"back"],
+            "update a none none||promote||back",
             "Order Fork Order Hand Promote Order HandBack Back Point Call Call Ended ",
             0,
         ),
         // a difference that no rule expects, and one that a rule does
         (
             b'a',
-            &[b"update b none none"],
+            "update b none none",
             "Order Fork Point Call Call Gave:Mismatch Ended ",
             0,
         ),
         (
             b'a',
-            &[b"update b fwd rev"],
+            "update b fwd rev",
             "Order Fork Point Call Call Ended ",
             0,
         ),
         // refused: its birth, and its rules
         (
             b'a',
-            &[b"update empty none none"],
+            "update empty none none",
             "Order Fork Gave:Refused Point Call Call Ended ",
             0,
         ),
         (
             b'a',
-            &[b"update b fwd drops"],
+            "update b fwd drops",
             "Order Fork Gave:Rules Point Call Call Ended ",
             0,
         ),
         // a trap of the follower, of the old leader, and of the new one
         (
             b'a',
-            &[b"update bang none none"],
+            "update bang none none",
             "Order Fork Point Call Call Gave:Trap Ended ",
             0,
         ),
         (
             b'!',
-            &[b"update b none none"],
+            "update b none none",
             "Order Fork Point Call HandTrap Over Call Ended ",
             0,
         ),
         (
             b'a',
-            &[b"update bang none none", b"", b"promote"],
+            "update bang none none||promote",
             "Order Fork Order Hand Promote Point Call HandTrap Back Call Ended ",
             0,
         ),
     ];
-    for (letter, lines, want, status) in &rows {
-        let outcome = rehearsed(alloc, *letter, lines, BLOCKS, 99, 99)?;
-        assert_eq!(rt; words(alloc, &outcome.log)?.as_str(), *want);
-        assert_eq!(rt; outcome.status, *status);
+    for (letter, lines, want, status) in rows {
+        assert!(rt;
+            comes_to(alloc, letter, lines.as_bytes(), BLOCKS, 99, want, status)?,
+            "{want}"
+        );
     }
     Ok(())
 }
@@ -394,111 +431,108 @@ fn updates_end_as_they_are_to(rt: HostRuntime) -> Result<(), Fail> {
 #[test]
 fn the_schedule_decides(rt: HostRuntime) -> Result<(), Fail> {
     let alloc = rt.alloc();
-    let rows: [(&[u8], &[&[u8]], &str, u8); 6] = [
-        (b"", &[], "Cut ", 0),
-        (b"LL", &[], "Point Call Cut ", 0),
-        (b"LLL", &[b"halt"], "Order Halted ", 0),
+    let rows: [(&str, &str, u64, &str, u8); 7] = [
+        ("", "", 99, "Cut ", 0),
+        ("LL", "", 99, "Point Call Cut ", 0),
+        ("LLL", "halt", 99, "Order Halted ", 0),
         // the kernel's call number 1 fails
-        (b"LLLL", &[], "Point Call KernelFault ", 6),
+        ("LLLL", "", 1, "Point Call KernelFault ", 6),
         // a hand-over that is asked holds the leader until the follower is there
         (
-            b"LLLLLLL",
-            &[b"update a none none", b"", b"promote"],
+            "LLLLLLL",
+            "update a none none||promote",
+            99,
             "Order Fork Order Hand Cut ",
+            0,
+        ),
+        // a mismatch that is found before a discard and judged behind it comes too late
+        (
+            "LLLLLCFFFFCFFFCFFLLJL",
+            "update b none none|||||discard",
+            99,
+            "Order Fork Point Call Call Order Gave:Order Ended ",
             0,
         ),
         // four copies wait in the feed, and the fifth has no place
         (
-            b"LLLLLLLLLLLLLLLLLLL",
-            &[
-                b"update a none none",
-                b"",
-                b"discard",
-                b"update a none none",
-                b"",
-                b"discard",
-                b"update a none none",
-                b"",
-                b"discard",
-                b"update a none none",
-                b"",
-                b"discard",
-                b"update a none none",
-                b"",
-                b"",
-                b"",
-            ],
+            "LLLLLLLLLLLLLLLLLLL",
+            "update a none none||discard|update a none none||discard|update a none none||discard|update a none none||discard|update a none none|||",
+            99,
             "Order Fork Order Gave:Order Order Fork Order Gave:Order Order Fork Order Gave:Order Order Fork Order Gave:Order Order Cut ",
             0,
         ),
     ];
-    for (letters, lines, want, status) in &rows {
-        let outcome = rehearsed(alloc, b'a', lines, letters, 1, 99)?;
-        assert_eq!(rt; words(alloc, &outcome.log)?.as_str(), *want);
-        assert_eq!(rt; outcome.status, *status);
+    for (letters, lines, fail, want, status) in rows {
+        assert!(rt;
+            comes_to(
+                alloc,
+                b'a',
+                lines.as_bytes(),
+                letters.as_bytes(),
+                fail,
+                want,
+                status
+            )?,
+            "{want}"
+        );
     }
-    // a mismatch that is found before a discard and judged behind it comes too late
-    let late = rehearsed(
-        alloc,
-        b'a',
-        &[b"update b none none", b"", b"", b"", b"", b"discard"],
-        b"LLLLLCFFFFCFFFCFFLLJL",
-        99,
-        99,
-    )?;
-    assert_eq!(rt;
-        words(alloc, &late.log)?.as_str(),
-        "Order Fork Point Call Call Order Gave:Order Ended "
-    );
     Ok(())
 }
 
 #[test]
 fn orders_are_answered_in_their_order(rt: HostRuntime) -> Result<(), Fail> {
     let alloc = rt.alloc();
-    let long = [b'x'; 4_097];
-    let lines: [&[u8]; 12] = [
-        &long,
-        b"\xff",
-        b"jump",
-        b"promote",
-        b"status",
-        b"update nofile none none",
-        b"update a nofile none",
-        b"update a fwd nofile",
-        b"update a none none",
-        b"update a none none",
-        b"halt",
-        b"status",
-    ];
-    let outcome = rehearsed(alloc, b'a', &lines, b"LLLLLLLLLLLLLL", 99, 99)?;
+    let mut lines = Vec::new(alloc);
+    for _ in 0..4_097 {
+        lines.push(b'x')?;
+    }
+    lines.extend_from_slice(
+        b"|\xff|jump|promote|status|update nofile none none|update a nofile none|update a fwd nofile|update a none none|update a none none|halt|status",
+    )?;
     let said =
         b"{\"no\":\"long\"}\n{\"no\":\"utf8\"}\n{\"no\":\"unknown\",\"text\":\"jump\"}\n{\"no\":\"stage\",\"now\":\"OldAlone\"}\n{\"last\":\"never\",\"ok\":\"status\",\"stage\":\"OldAlone\",\"update\":0}\n{\"no\":\"missing\",\"path\":\"nofile\"}\n{\"no\":\"missing\",\"path\":\"nofile\"}\n{\"no\":\"missing\",\"path\":\"nofile\"}\n{\"ok\":\"update\",\"update\":1}\n{\"no\":\"busy\",\"update\":1}\n{\"ok\":\"halt\"}\n";
-    assert_eq!(rt; outcome.console.said(), said.as_slice());
-    let failed: [(u64, &[u8]); 3] = [
-        (0, b"{\"no\":\"failed\",\"path\":\"a\"}\n"),
-        (1, b"{\"no\":\"failed\",\"path\":\"fwd\"}\n"),
-        (2, b"{\"no\":\"failed\",\"path\":\"rev\"}\n"),
-    ];
-    for (read, want) in &failed {
-        let outcome = rehearsed(alloc, b'a', &[b"update a fwd rev"], b"L", 99, *read)?;
-        assert_eq!(rt; outcome.console.said(), *want);
-    }
+    assert!(rt; is_told(alloc, &lines, b"LLLLLLLLLLLLLL", 99, said)?);
+    let update = b"update a fwd rev";
+    assert!(rt;
+        is_told(
+            alloc,
+            update,
+            b"L",
+            0,
+            b"{\"no\":\"failed\",\"path\":\"a\"}\n"
+        )?
+    );
+    assert!(rt;
+        is_told(
+            alloc,
+            update,
+            b"L",
+            1,
+            b"{\"no\":\"failed\",\"path\":\"fwd\"}\n"
+        )?
+    );
+    assert!(rt;
+        is_told(
+            alloc,
+            update,
+            b"L",
+            2,
+            b"{\"no\":\"failed\",\"path\":\"rev\"}\n"
+        )?
+    );
     Ok(())
 }
 
 #[test]
 fn the_update_behind_the_sixty_fourth_is_one_too_many(rt: HostRuntime) -> Result<(), Fail> {
     let alloc = rt.alloc();
-    let mut lines: Vec<&[u8]> = Vec::new(alloc);
+    let mut lines = Vec::new(alloc);
     let mut letters = Vec::new(alloc);
     for _ in 0..64 {
-        lines.push(b"update a none none")?;
-        lines.push(b"")?;
-        lines.push(b"discard")?;
+        lines.extend_from_slice(b"update a none none||discard|")?;
         letters.extend_from_slice(b"LLCFFFFLL")?;
     }
-    lines.push(b"update a none none")?;
+    lines.extend_from_slice(b"update a none none")?;
     letters.push(b'L')?;
     let outcome = rehearsed(alloc, b'a', &lines, &letters, 99, 99)?;
     assert!(rt; outcome.console.said().ends_with(b"{\"no\":\"many\"}\n"));
@@ -509,17 +543,13 @@ fn the_update_behind_the_sixty_fourth_is_one_too_many(rt: HostRuntime) -> Result
 #[test]
 fn a_run_alone_asks_nobody(rt: HostRuntime) -> Result<(), Fail> {
     let alloc = rt.alloc();
-    let start = Start {
-        module: Bytes::from_slice(alloc, b"a")?,
-        args: Texts::from_vec(Vec::new(alloc)),
-    };
-    let log = Log::make(alloc, start)?;
+    let log = new_log(alloc, b'a')?;
     let kernel = Plain {
         calls: 0,
         fail: 99,
         faults: 0,
     };
-    let console = console(alloc, &[b"halt"])?;
+    let console = console(alloc, b"halt")?;
     let files = files(alloc, 99)?;
     let outcome = alone(alloc, Talker::Begins(b'a'), log, kernel, console, files);
     assert_eq!(rt;

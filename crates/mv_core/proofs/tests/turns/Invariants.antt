@@ -12,6 +12,5 @@ ghosts-turned g a = record {
     kernel_faults = g.K.Kernel.faults a.kernel;
     console_faults = g.C.Console.faults a.console;
     files_faults = g.F.Files.faults a.files;
-    sink_faults = 0;
   };
 }
