@@ -16,7 +16,8 @@ use mv_version::{Event, Version};
 use std::alloc::Global;
 use std::test::*;
 
-/// A guest that passes a point, reads, writes its letter and ends. Where its letter is `!` it traps once it has read.
+/// A guest that passes a point, reads, writes its letter and ends. Where its letter is `!` it traps once it has read, and where
+/// it is `?` there is never memory for its first event.
 #[derive(Drop)]
 enum Talker {
     Begins(u8),
@@ -61,6 +62,7 @@ impl Version for Talker {
 
     fn go(&mut self, alloc: Global) -> Result<Event, OutOfMemory> {
         match self {
+            Talker::Begins(b'?') => Err(OutOfMemory),
             Talker::Begins(_) => Ok(Event::Point),
             Talker::Reads(_) => Ok(Event::Calls(Call::Read { fd: 0, cap: 4 })),
             Talker::Writes(letter) => Ok(Event::Calls(Call::Write {
@@ -242,6 +244,9 @@ fn mark_name(mark: &Mark) -> &'static str {
         Mark::Back => "Back",
         Mark::Finish => "Finish",
         Mark::Discard { cause } => cause_name(cause),
+        Mark::Dropped {
+            cause: Cause::Mismatch { .. },
+        } => "Lost:Mismatch",
         Mark::Dropped { cause } => cause_name(cause),
         Mark::End { how } => end_name(*how),
     }
@@ -356,10 +361,11 @@ const BLOCKS: &[u8] = b"LCFFFJLCFFFJLCFFFJLCFFFJLCFFFJLCFFFJLCFFFJLCFFFJLCFFFJLC
 #[test]
 fn updates_end_as_they_are_to(rt: HostRuntime) -> Result<(), Fail> {
     let alloc = rt.alloc();
-    let rows: [(u8, &str, &str, u8); 11] = [
+    let rows: [(u8, &str, &str, u8); 13] = [
         // no update
         (b'a', "", "Point Call Call Ended ", 0),
         (b'!', "", "Point Call Trapped ", 5),
+        (b'?', "", "Memory ", 9),
         // promoted and finished; rolled back
         (
             b'a',
@@ -384,6 +390,13 @@ fn updates_end_as_they_are_to(rt: HostRuntime) -> Result<(), Fail> {
             b'a',
             "update b fwd rev",
             "Order Fork Point Call Call Ended ",
+            0,
+        ),
+        // the same where the new version leads, and the old one follows without reverse rules
+        (
+            b'a',
+            "update b fwd none||promote",
+            "Order Fork Order Hand Promote Point Call Call Lost:Mismatch Ended ",
             0,
         ),
         // refused: its birth, and its rules
