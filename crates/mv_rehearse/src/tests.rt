@@ -10,7 +10,7 @@ ghost use Rattle.mv_version.specs.declared.event.Event.TheVariants as event;
 use super::*;
 use mv_calls::{Bytes, Call, Or, OutOfMemory, Reply, Room, Texts, Trap};
 use mv_history::{Cause, Entry, How, Log, Mark, Start, Why};
-use mv_outside::{Failed, FileAt, Kernel, MemConsole, MemFiles};
+use mv_outside::{Failed, FileAt, Kernel, MemConsole, MemFiles, paths_differ};
 use mv_syntax::BornFault;
 use mv_version::{Event, Version};
 use std::alloc::Global;
@@ -33,7 +33,7 @@ impl Version for Talker {
       go = λ s. elim s [ talker.Begins x ↦ event.Point | talker.Reads x ↦ event.Calls (call.Read 0 4) | talker.Writes x ↦ event.Calls (call.Write 1 (x ∷ [])) | talker.Ends x ↦ event.Ends 0 | talker.Fails ↦ event.Traps trap.Unreachable ];
       after = λ s r. elim s [ talker.Begins x ↦ talker.Reads x | talker.Reads x ↦ cond (x == 33) talker.Fails (talker.Writes x) | talker.Writes x ↦ talker.Ends x | talker.Ends x ↦ talker.Ends x | talker.Fails ↦ talker.Fails ];
       passed = λ s. elim s [ talker.Begins x ↦ talker.Reads x | talker.Reads x ↦ cond (x == 33) talker.Fails (talker.Writes x) | talker.Writes x ↦ talker.Ends x | talker.Ends x ↦ talker.Ends x | talker.Fails ↦ talker.Fails ];
-      started = λ m a. elim m [ [] ↦ Err fault.NoResume | y ∷ rest ↦ Ok (talker.Begins y) ];
+      started = λ m a. elim m [ [] ↦ Ok (talker.Begins 97) | y ∷ rest ↦ Ok (talker.Begins y) ];
       born = λ s m. elim m [ [] ↦ Err fault.NoResume | y ∷ rest ↦ elim s [ talker.Begins x ↦ Ok (talker.Begins y) | talker.Reads x ↦ Ok (talker.Reads y) | talker.Writes x ↦ Ok (talker.Writes y) | talker.Ends x ↦ Ok (talker.Ends y) | talker.Fails ↦ Ok talker.Fails ] ];
       left = λ s. elim s [ talker.Begins x ↦ 1 | talker.Reads x ↦ 0 | talker.Writes x ↦ 0 | talker.Ends x ↦ 0 | talker.Fails ↦ 0 ];
     } };
@@ -42,7 +42,7 @@ impl Version for Talker {
 
     fn start(_alloc: Global, module: &[u8], _args: &Texts) -> Result<Self, Or<BornFault>> {
         match module {
-            [] => Err(Or::Fault(BornFault::NoResume)),
+            [] => Ok(Talker::Begins(b'a')),
             [letter, ..] => Ok(Talker::Begins(*letter)),
         }
     }
@@ -127,7 +127,7 @@ impl Talker {
     }
 }
 
-/// A kernel that tells nothing. It takes what is written, and answers all else by error 6; its call number `fail` fails.
+/// A kernel that tells nothing, and answers by error 6; its call number `fail` fails.
 #[derive(Drop)]
 struct Plain {
     calls: u64,
@@ -148,23 +148,22 @@ impl Kernel for Plain {
         Ok(())
     }
 
-    fn perform(&mut self, call: &Call, _room: Room) -> Result<Reply, Failed> {
+    fn perform(&mut self, _call: &Call, _room: Room) -> Result<Reply, Failed> {
         let number = self.calls;
         self.calls = self.calls.saturating_add(1);
         if number == self.fail {
             self.faults = self.faults.saturating_add(1);
             return Err(Failed);
         }
-        match call {
-            Call::Write { .. } => Ok(Reply::Count(1)),
-            _ => Ok(Reply::Errno(6)),
-        }
+        Ok(Reply::Errno(6))
     }
 }
 
-const FORWARD: &[u8] = b"mvrules 1\nrule\nwrite $f \"a\" -> all\nto\nwrite $f \"b\" -> all\nend\n";
+const FORWARD: &[u8] =
+    b"mvrules 1\nrule\nwrite $f \"a\" -> errno 6\nto\nwrite $f \"b\" -> errno 6\nend\n";
 
-const REVERSE: &[u8] = b"mvrules 1\nrule\nwrite $f \"b\" -> all\nto\nwrite $f \"a\" -> all\nend\n";
+const REVERSE: &[u8] =
+    b"mvrules 1\nrule\nwrite $f \"b\" -> errno 6\nto\nwrite $f \"a\" -> errno 6\nend\n";
 
 const READS: &[u8] = b"mvrules 1\nrule\nread $f -> @x\nto\nend\n";
 
@@ -188,6 +187,9 @@ fn files(alloc: Global, fail_read: u64) -> Result<MemFiles, OutOfMemory> {
     list.push(file(alloc, b"drops", READS)?)?;
     let mut failing = Vec::new(alloc);
     failing.push(fail_read)?;
+    if !paths_differ(&list) {
+        return Err(OutOfMemory);
+    }
     Ok(MemFiles::new(list, failing, Vec::new(alloc)))
 }
 
