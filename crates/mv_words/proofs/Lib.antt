@@ -1,0 +1,7 @@
+pub mod Walks
+pub mod Lemmas
+pub mod Rows
+pub mod Holding
+pub mod Taken
+pub mod Parsed
+pub mod Asking

@@ -1,0 +1,29 @@
+//! What a command line asks for.
+
+use mv_calls::{Bytes, Texts};
+
+/// What a command line asks for, with its words (docs/GUIDE.md, "Words").
+#[derive(Debug, Drop)]
+pub enum Command {
+    /// `run OLD [ARG ..]`.
+    Run { old: Bytes, args: Texts },
+    /// `rehearse OLD SCHEDULE [ARG ..] [--ring N]`; `ring` is 4 to 4,096.
+    Rehearse {
+        old: Bytes,
+        schedule: Bytes,
+        args: Texts,
+        ring: u32,
+    },
+    /// `check MODULE`.
+    Check { path: Bytes },
+    /// `rules FWD`.
+    Rules { forward: Bytes },
+    /// `--help`, alone or behind a command word.
+    Help,
+    /// `--version`, alone.
+    Version,
+}
+
+/// The words are outside the grammar.
+#[derive(Clone, Copy, PartialEq, Eq, Debug)]
+pub struct BadWords;
