@@ -1,5 +1,5 @@
 //! Subscriptions of `poll_oneoff`.
-ghost use Rattle.std.specs.Prelude.{◌≡◌, ◌≤◌, ◌+◌, ◌*◌, ◌&&◌, [], IfOk, length};
+ghost use Rattle.std.specs.Prelude.{◌≡◌, ◌<◌, ◌≤◌, ◌+◌, ◌*◌, ◌^◌, ◌&&◌, [], IfOk, length};
 ghost use Rattle.mv_imports.specs.declared.function.HostFunction.TheVariants as Function;
 ghost use Rattle.mv_wasi.specs.Ranges.{is_within, vector_limit};
 ghost use Rattle.mv_wasi.specs.Polls.{clock_at as clock_in, sub_at as sub_in, subs_at as subs_in};
@@ -19,7 +19,8 @@ const EVENT_BYTES: u64 = 32;
 
 /// The clock of the subscription at this place; `None` where there is no clock of its id.
 fn clock_at(memory: &Memory, place: u64) -> Option<Sub>
-    requires { place + 48 ≤ length memory.now.bytes }
+    requires within { place + 48 ≤ length memory.now.bytes }
+    requires place { place < 2 ^ 63 }
     ensures { result ≡ clock_in memory.now.bytes place }
 {
     let id = word_at(memory, place + 16);
@@ -36,7 +37,8 @@ fn clock_at(memory: &Memory, place: u64) -> Option<Sub>
 
 /// The subscription at this place; `None` where it is of no form that this host knows.
 fn sub_at(memory: &Memory, place: u64) -> Option<Sub>
-    requires { place + 48 ≤ length memory.now.bytes }
+    requires within { place + 48 ≤ length memory.now.bytes }
+    requires place { place < 2 ^ 63 }
     ensures { result ≡ sub_in memory.now.bytes place }
 {
     match number_at(memory, place + 8, 1) {

@@ -28,6 +28,13 @@ fn size_of_texts(texts: &[Bytes]) -> u128
     size
 }
 
+/// Whether the places of two numbers of four bytes are in bounds.
+fn words_lie_within(memory: &Memory, count_at: u32, size_at: u32) -> bool
+    ensures { result ≡ (is_within memory.now.bytes count_at 4 && is_within memory.now.bytes size_at 4) }
+{
+    lies_within(memory, count_at, 4) && lies_within(memory, size_at, 4)
+}
+
 /// `args_sizes_get` and `environ_sizes_get`: how many texts there are and what they take, both modulo 2^32. For want of memory
 /// nothing is written.
 pub fn sizes_made(
@@ -41,7 +48,7 @@ pub fn sizes_made(
     ensures left { IfOk result (λ made. cleaned memory.new ≡ cleaned (record memory.old { bytes = (sizes_answered count_at size_at texts.now memory.old.bytes).1 })) }
     ensures err { OnErr result (cleaned memory.new ≡ cleaned memory.old) }
 {
-    if !(lies_within(memory, count_at, 4) && lies_within(memory, size_at, 4)) {
+    if !words_lie_within(memory, count_at, size_at) {
         return Ok(Made::Local(ERRNO_FAULT));
     }
     let count = (texts.len() as u128 % WORDS) as u32;
