@@ -97,6 +97,6 @@ both-within m first first_len second second_len e =
 pub sizes-written : (old new : Contents) (count_at size_at : ℕ) (texts : List (List ℕ)) (first second : List ℕ) → is_within old.bytes count_at 4 && is_within old.bytes size_at 4 ≡ true → first ≡ low_bytes 4 (length texts % 2 ^ 32) → second ≡ low_bytes 4 (text_size texts % 2 ^ 32) → cleaned new ≡ cleaned (record old { bytes = written (written old.bytes count_at first) size_at second }) → cleaned new ≡ cleaned (record old { bytes = (sizes_answered count_at size_at texts old.bytes).1 })
 sizes-written old new count_at size_at texts first second inside f s h =
     h ∙ ap (λ b. cleaned (record old { bytes = b })) (
-        ap (λ xs. written (written old.bytes count_at xs) size_at second) f
-        ∙ ap (λ xs. written (written old.bytes count_at (low_bytes 4 (length texts % 2 ^ 32))) size_at xs) s
-        ∙ sym (ap (λ within. (checked old.bytes false within (Local 0, with_number size_at 4 (text_size texts % 2 ^ 32) (with_number count_at 4 (length texts % 2 ^ 32) old.bytes))).1) inside))
+    ap (λ xs. written (written old.bytes count_at xs) size_at second) f
+    ∙ ap (λ xs. written (written old.bytes count_at (low_bytes 4 (length texts % 2 ^ 32))) size_at xs) s
+    ∙ sym (ap (λ within. (checked old.bytes false within (Local 0, with_number size_at 4 (text_size texts % 2 ^ 32) (with_number count_at 4 (length texts % 2 ^ 32) old.bytes))).1) inside))

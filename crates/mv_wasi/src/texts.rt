@@ -6,8 +6,8 @@ ghost use Rattle.mv_wasi.specs.Decoding.{sizes_answered, texts_answered};
 ghost use Rattle.mv_wasi.specs.Machines.{cleaned};
 
 use crate::made::{ERRNO_FAULT, Made};
+use crate::pairs::write_both;
 use crate::ranges::{lies_within, size_of};
-use crate::writes::write_both;
 use mv_calls::{Bytes, OutOfMemory};
 use mv_memory::Memory;
 use std::alloc::Global;

@@ -1,7 +1,7 @@
 use Rattle.std.proofs.Common.{◌≡◌, ℕ, length, ap, ◌∙◌, arith}
 use Rattle.mv_memory.specs.Memory.{Contents}
 use Rattle.mv_memory.proofs.BytesLemmas.{length-written}
-use Rattle.mv_wasi.proofs.writes.write_both.Goals as goal
+use Rattle.mv_wasi.proofs.pairs.write_both.Goals as goal
 
 pub write_owned-requires-2-clause-within : goal.write_owned-requires-2-clause-within
 write_owned-requires-2-clause-within c =
