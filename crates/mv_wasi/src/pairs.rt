@@ -20,6 +20,7 @@ fn own_place(
     ensures same { HasBytes memory.old memory.new memory.old.bytes }
     ensures owned { OnOk result (IsOwnedRange memory.new place (length bytes.now)) }
 {
+    // No memory has more than 2^26 bytes, and so these bytes are no more.
     let _ = size_of(memory);
     match memory.own_pages(alloc, u64::from(place), bytes.len() as u32) {
         Ok(()) => Ok(()),

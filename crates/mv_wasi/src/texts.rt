@@ -1,5 +1,5 @@
 //! Texts for a guest, such as its arguments: how many there are, and the texts themselves.
-ghost use Rattle.std.specs.Prelude.{◌≡◌, ◌≤◌, ◌+◌, ◌*◌, ◌^◌, ◌&&◌, IfOk, OnErr, length};
+ghost use Rattle.std.specs.Prelude.{◌≡◌, ◌≤◌, ◌+◌, ◌*◌, ◌^◌, ◌&&◌, IfOk, IsTrue, OnErr, length};
 ghost use Rattle.mv_memory.specs.Bytes.{low_bytes};
 ghost use Rattle.mv_wasi.specs.Ranges.{is_within, text_size, text_bytes, place_bytes};
 ghost use Rattle.mv_wasi.specs.Decoding.{sizes_answered, texts_answered};
@@ -12,7 +12,7 @@ use mv_calls::{Bytes, OutOfMemory};
 use mv_memory::Memory;
 use std::alloc::Global;
 
-/// What an i32 has at most, and one more.
+/// How many numbers four bytes can spell.
 const WORDS: u128 = 4_294_967_296;
 
 /// What the texts take, each with a zero byte behind it. A `u128` holds it whatever the texts: there are fewer than 2^64 of
@@ -92,7 +92,8 @@ fn joined_texts(alloc: Global, texts: &[Bytes]) -> Result<Vec<u8>, OutOfMemory>
 
 /// Whether the list of places and the texts are in bounds.
 fn texts_lie_within(memory: &Memory, list: u32, buf: u32, texts: &[Bytes]) -> bool
-    ensures { result ≡ (is_within memory.now.bytes list (4 * length texts.now) && is_within memory.now.bytes buf (text_size texts.now)) }
+    ensures small { IsTrue result → buf + text_size texts.now ≤ 2 ^ 26 }
+    ensures within { result ≡ (is_within memory.now.bytes list (4 * length texts.now) && is_within memory.now.bytes buf (text_size texts.now)) }
 {
     let size = u128::from(size_of(memory));
     u128::from(list) + 4 * texts.len() as u128 <= size
@@ -114,7 +115,6 @@ pub fn texts_made(
     if !texts_lie_within(memory, list, buf, texts) {
         return Ok(Made::Local(ERRNO_FAULT));
     }
-    let _ = size_of(memory);
     let places = places_of(alloc, buf, texts)?;
     let bytes = joined_texts(alloc, texts)?;
     write_both(alloc, memory, list, &places, buf, &bytes)?;
