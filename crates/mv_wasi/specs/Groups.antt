@@ -1,4 +1,4 @@
--- Which calls of this host ask for texts, and which are judged by what stands in memory.
+-- Which calls of this host ask for texts, and which are judged by what stands in memory: conditions of the code on itself.
 use Rattle.mv_imports.specs.declared.function.HostFunction.{HostFunction}
 use Rattle.mv_imports.specs.declared.function.HostFunction.TheVariants.{FdRead, FdWrite, FdFdstatGet, ClockTimeGet, RandomGet, PollOneoff, SockAccept, SockShutdown, ArgsSizesGet, ArgsGet, EnvironSizesGet, EnvironGet}
 
@@ -21,3 +21,12 @@ IsJudged PollOneoff = Unit {0}
 IsJudged SockAccept = Unit {0}
 IsJudged SockShutdown = Unit {0}
 IsJudged function = ⊥
+
+-- it is one of those on a descriptor
+abbrev pub IsJudgedOnDescriptor : HostFunction → Type 0
+IsJudgedOnDescriptor FdRead = Unit {0}
+IsJudgedOnDescriptor FdWrite = Unit {0}
+IsJudgedOnDescriptor FdFdstatGet = Unit {0}
+IsJudgedOnDescriptor SockAccept = Unit {0}
+IsJudgedOnDescriptor SockShutdown = Unit {0}
+IsJudgedOnDescriptor function = ⊥

@@ -4,7 +4,7 @@ ghost use Rattle.mv_syntax.specs.declared.ops.ValType.TheVariants.{I32};
 ghost use Rattle.mv_imports.specs.Functions.{params_of};
 ghost use Rattle.mv_imports.specs.declared.function.HostFunction.TheVariants as Function;
 ghost use Rattle.mv_wasi.specs.Decoding.{decoded, sizes_answered, texts_answered};
-ghost use Rattle.mv_wasi.specs.Groups.{AsksForTexts, IsJudged};
+ghost use Rattle.mv_wasi.specs.Groups.{AsksForTexts, IsJudged, IsJudgedOnDescriptor};
 ghost use Rattle.mv_wasi.specs.Machines.{argument_at, made_at, with_bytes, clean};
 ghost use Rattle.mv_wasi.specs.Known.{AreKnown, IsWaitingFor, UnlessLocal};
 
@@ -128,14 +128,15 @@ fn read_made(memory: &Memory, fd: u32, iovs: u32, count: u32, result_at: u32) ->
     }
 }
 
-/// What the call of a function becomes that is judged by its arguments and by what is in memory. It writes nothing.
-fn decode_judged(
+/// What the call of a function on a descriptor becomes that is judged by its arguments and by what is in memory. It writes
+/// nothing.
+fn decode_descriptor(
     alloc: Global,
     machine: &Machine,
     function: HostFunction,
 ) -> Result<Made, OutOfMemory>
     requires waits { IsWaitingFor machine.now function }
-    requires judged { IsJudged function }
+    requires judged { IsJudgedOnDescriptor function }
     ensures made { IfOk result (λ made. (texts : List (List ℕ)) → made ≡ (decoded function (argument_at machine.now.parts machine.now.config 0) (argument_at machine.now.parts machine.now.config 1) (argument_at machine.now.parts machine.now.config 2) (argument_at machine.now.parts machine.now.config 3) texts machine.now.config.store.memory.bytes).0) }
     ensures left { IfOk result (λ made. (texts : List (List ℕ)) → (decoded function (argument_at machine.now.parts machine.now.config 0) (argument_at machine.now.parts machine.now.config 1) (argument_at machine.now.parts machine.now.config 2) (argument_at machine.now.parts machine.now.config 3) texts machine.now.config.store.memory.bytes).1 ≡ machine.now.config.store.memory.bytes) }
 {
@@ -172,6 +173,23 @@ fn decode_judged(
             word(machine, function, 0),
             word(machine, function, 1),
         )),
+        _ => unreachable!(),
+    }
+}
+
+/// What the call of a function becomes that is judged by its arguments and by what is in memory. It writes nothing.
+fn decode_judged(
+    alloc: Global,
+    machine: &Machine,
+    function: HostFunction,
+) -> Result<Made, OutOfMemory>
+    requires waits { IsWaitingFor machine.now function }
+    requires judged { IsJudged function }
+    ensures made { IfOk result (λ made. (texts : List (List ℕ)) → made ≡ (decoded function (argument_at machine.now.parts machine.now.config 0) (argument_at machine.now.parts machine.now.config 1) (argument_at machine.now.parts machine.now.config 2) (argument_at machine.now.parts machine.now.config 3) texts machine.now.config.store.memory.bytes).0) }
+    ensures left { IfOk result (λ made. (texts : List (List ℕ)) → (decoded function (argument_at machine.now.parts machine.now.config 0) (argument_at machine.now.parts machine.now.config 1) (argument_at machine.now.parts machine.now.config 2) (argument_at machine.now.parts machine.now.config 3) texts machine.now.config.store.memory.bytes).1 ≡ machine.now.config.store.memory.bytes) }
+{
+    let memory = machine.memory();
+    match function {
         HostFunction::ClockTimeGet => Ok(clock_made(
             memory,
             word(machine, function, 0),
@@ -190,7 +208,7 @@ fn decode_judged(
             word(machine, function, 2),
             word(machine, function, 3),
         ),
-        _ => unreachable!(),
+        _ => decode_descriptor(alloc, machine, function),
     }
 }
 
