@@ -1,4 +1,4 @@
-use Rattle.std.proofs.Common.{◌≡◌, ℕ, length, ap, ◌∙◌, arith}
+use Rattle.std.proofs.Common.{length, ap, arith}
 use Rattle.mv_memory.specs.Memory.{Contents}
 use Rattle.mv_memory.proofs.BytesLemmas.{length-written}
 use Rattle.mv_wasi.proofs.pairs.write_both.Goals as goal

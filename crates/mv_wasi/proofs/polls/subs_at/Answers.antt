@@ -1,4 +1,4 @@
-use Rattle.std.proofs.Common.{◌≡◌, ap, sym, ◌∙◌, List, Some, arith}
+use Rattle.std.proofs.Common.{ap, sym, ◌∙◌, List, Some, arith}
 use Rattle.mv_calls.specs.declared.subs.Sub.{Sub}
 use Rattle.mv_wasi.specs.Polls.{subs_at}
 use Rattle.mv_wasi.proofs.Subscriptions.{behind, rest_of, subs-first, subs-more, subs-none, subs-all}

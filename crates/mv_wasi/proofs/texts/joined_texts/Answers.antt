@@ -1,4 +1,4 @@
-use Rattle.std.proofs.Common.{◌≡◌, [], ◌∷◌, ◌++◌, ap, ◌∙◌, ℕ, List, arith}
+use Rattle.std.proofs.Common.{[], ◌∷◌, ◌++◌, ap, ◌∙◌, ℕ, List, arith}
 use Rattle.mv_wasi.specs.Ranges.{text_bytes}
 use Rattle.mv_wasi.proofs.TextLaws.{bytes-more, bytes-past}
 use Rattle.mv_wasi.proofs.texts.joined_texts.Goals as goal

@@ -1,4 +1,4 @@
-use Rattle.std.proofs.Common.{◌≡◌, ◌+◌, ◌++◌, ap, ◌∙◌, length, ℕ, List, arith}
+use Rattle.std.proofs.Common.{◌+◌, ◌++◌, ap, ◌∙◌, length, ℕ, List, arith}
 use Rattle.mv_wasi.specs.Ranges.{place_bytes}
 use Rattle.mv_wasi.proofs.TextLaws.{size-more, places-more, places-past, word-bytes}
 use Rattle.mv_wasi.proofs.texts.places_of.Goals as goal

@@ -1,4 +1,4 @@
-use Rattle.std.proofs.Common.{◌≡◌, ap, length, arith}
+use Rattle.std.proofs.Common.{ap, length, arith}
 use Rattle.mv_wasi.proofs.TextLaws.{size-more, size-past}
 use Rattle.mv_wasi.proofs.texts.size_of_texts.Goals as goal
 

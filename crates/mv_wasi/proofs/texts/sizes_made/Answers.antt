@@ -1,4 +1,4 @@
-use Rattle.std.proofs.Common.{◌≡◌, ◌∙◌, ◌%◌, ◌^◌, ℕ, ap, sym}
+use Rattle.std.proofs.Common.{◌∙◌, ◌%◌, ◌^◌, ℕ, ap, sym}
 use Rattle.mv_memory.specs.Bytes.{low_bytes}
 use Rattle.mv_wasi.proofs.TextLaws.{word-bytes, sizes-written}
 use Rattle.mv_wasi.proofs.texts.sizes_made.Goals as goal

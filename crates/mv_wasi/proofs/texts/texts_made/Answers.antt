@@ -1,4 +1,4 @@
-use Rattle.std.proofs.Common.{◌≡◌, ap, sym, length, List, ℕ, arith, ◌*◌}
+use Rattle.std.proofs.Common.{ap, sym, length, arith, ◌*◌}
 use Rattle.mv_wasi.specs.Ranges.{text_size}
 use Rattle.mv_wasi.proofs.TextLaws.{both-within, length-places, length-bytes}
 use Rattle.mv_wasi.proofs.texts.texts_made.Goals as goal
