@@ -1,26 +1,25 @@
 //! What the call at which a machine stands becomes.
-ghost use Rattle.std.specs.Prelude.{◌≡◌, ℕ, List, [], Some, IfOk, OnErr};
+ghost use Rattle.std.specs.Prelude.{◌≡◌, ◌∷◌, ℕ, List, [], Some, IfOk, OnErr};
+ghost use Rattle.mv_syntax.specs.declared.ops.ValType.TheVariants.{I32};
+ghost use Rattle.mv_imports.specs.Functions.{params_of};
 ghost use Rattle.mv_imports.specs.declared.function.HostFunction.TheVariants as Function;
-ghost use Rattle.mv_wasi.specs.Decoding.{decoded};
+ghost use Rattle.mv_wasi.specs.Decoding.{decoded, sizes_answered, texts_answered};
+ghost use Rattle.mv_wasi.specs.Groups.{AsksForTexts, IsJudged, IsJudgedOnDescriptor};
 ghost use Rattle.mv_wasi.specs.Machines.{argument_at, made_at, with_bytes, clean};
 ghost use Rattle.mv_wasi.specs.Known.{AreKnown, IsWaitingFor, UnlessLocal};
 
 use crate::calls::{function_of, word};
-use crate::made::{LiveOp, Made};
+use crate::made::{ERRNO_FAULT, ERRNO_INVAL, LiveOp, Made};
+use crate::polls::poll_made;
 use crate::ranges::{
     TRANSFER_LIMIT, VECTOR_LIMIT, gathered, lies_within, ranges_lie_within, total_of,
 };
+use crate::texts::{sizes_made, texts_made};
 use mv_calls::{Bytes, Call, OutOfMemory, Texts};
 use mv_imports::HostFunction;
 use mv_machine::Machine;
 use mv_memory::Memory;
 use std::alloc::Global;
-
-/// An argument that is out of its range.
-const ERRNO_INVAL: u16 = 28;
-
-/// A range that is out of bounds.
-const ERRNO_FAULT: u16 = 21;
 
 /// `clock_time_get`.
 fn clock_made(memory: &Memory, id: u32, out: u32) -> Made
@@ -129,13 +128,15 @@ fn read_made(memory: &Memory, fd: u32, iovs: u32, count: u32, result_at: u32) ->
     }
 }
 
-/// What the call of a function on descriptors becomes, which writes nothing.
+/// What the call of a function on a descriptor becomes that is judged by its arguments and by what is in memory. It writes
+/// nothing.
 fn decode_descriptor(
     alloc: Global,
     machine: &Machine,
     function: HostFunction,
 ) -> Result<Made, OutOfMemory>
     requires waits { IsWaitingFor machine.now function }
+    requires judged { IsJudgedOnDescriptor function }
     ensures made { IfOk result (λ made. (texts : List (List ℕ)) → made ≡ (decoded function (argument_at machine.now.parts machine.now.config 0) (argument_at machine.now.parts machine.now.config 1) (argument_at machine.now.parts machine.now.config 2) (argument_at machine.now.parts machine.now.config 3) texts machine.now.config.store.memory.bytes).0) }
     ensures left { IfOk result (λ made. (texts : List (List ℕ)) → (decoded function (argument_at machine.now.parts machine.now.config 0) (argument_at machine.now.parts machine.now.config 1) (argument_at machine.now.parts machine.now.config 2) (argument_at machine.now.parts machine.now.config 3) texts machine.now.config.store.memory.bytes).1 ≡ machine.now.config.store.memory.bytes) }
 {
@@ -172,6 +173,23 @@ fn decode_descriptor(
             word(machine, function, 0),
             word(machine, function, 1),
         )),
+        _ => unreachable!(),
+    }
+}
+
+/// What the call of a function becomes that is judged by its arguments and by what is in memory. It writes nothing.
+fn decode_judged(
+    alloc: Global,
+    machine: &Machine,
+    function: HostFunction,
+) -> Result<Made, OutOfMemory>
+    requires waits { IsWaitingFor machine.now function }
+    requires judged { IsJudged function }
+    ensures made { IfOk result (λ made. (texts : List (List ℕ)) → made ≡ (decoded function (argument_at machine.now.parts machine.now.config 0) (argument_at machine.now.parts machine.now.config 1) (argument_at machine.now.parts machine.now.config 2) (argument_at machine.now.parts machine.now.config 3) texts machine.now.config.store.memory.bytes).0) }
+    ensures left { IfOk result (λ made. (texts : List (List ℕ)) → (decoded function (argument_at machine.now.parts machine.now.config 0) (argument_at machine.now.parts machine.now.config 1) (argument_at machine.now.parts machine.now.config 2) (argument_at machine.now.parts machine.now.config 3) texts machine.now.config.store.memory.bytes).1 ≡ machine.now.config.store.memory.bytes) }
+{
+    let memory = machine.memory();
+    match function {
         HostFunction::ClockTimeGet => Ok(clock_made(
             memory,
             word(machine, function, 0),
@@ -182,17 +200,26 @@ fn decode_descriptor(
             word(machine, function, 0),
             word(machine, function, 1),
         )),
-        _ => Err(OutOfMemory),
+        HostFunction::PollOneoff => poll_made(
+            alloc,
+            memory,
+            word(machine, function, 0),
+            word(machine, function, 1),
+            word(machine, function, 2),
+            word(machine, function, 3),
+        ),
+        _ => decode_descriptor(alloc, machine, function),
     }
 }
 
-/// What the call of this function becomes, which writes nothing.
+/// What the call of this function becomes, which asks for no texts and so writes nothing.
 fn decode_call(
     alloc: Global,
     machine: &Machine,
     function: HostFunction,
 ) -> Result<Made, OutOfMemory>
     requires waits { IsWaitingFor machine.now function }
+    requires texts { AsksForTexts function → ⊥ }
     ensures made { IfOk result (λ made. (texts : List (List ℕ)) → made ≡ (decoded function (argument_at machine.now.parts machine.now.config 0) (argument_at machine.now.parts machine.now.config 1) (argument_at machine.now.parts machine.now.config 2) (argument_at machine.now.parts machine.now.config 3) texts machine.now.config.store.memory.bytes).0) }
     ensures left { IfOk result (λ made. (texts : List (List ℕ)) → (decoded function (argument_at machine.now.parts machine.now.config 0) (argument_at machine.now.parts machine.now.config 1) (argument_at machine.now.parts machine.now.config 2) (argument_at machine.now.parts machine.now.config 3) texts machine.now.config.store.memory.bytes).1 ≡ machine.now.config.store.memory.bytes) }
 {
@@ -215,28 +242,74 @@ fn decode_call(
         HostFunction::OldGlobal => Ok(Made::Live(LiveOp::Global {
             n: word(machine, function, 0),
         })),
-        _ => decode_descriptor(alloc, machine, function),
+        _ => decode_judged(alloc, machine, function),
     }
 }
 
-/// What the call of this import becomes, at which the machine stands. For want of memory nothing changes, but for which pages
-/// are owned.
+/// The answer to a call that asks how many texts there are and what they take.
+fn answer_sizes(
+    alloc: Global,
+    machine: &mut Machine,
+    function: HostFunction,
+    texts: &[Bytes],
+) -> Result<Made, OutOfMemory>
+    requires waits { IsWaitingFor machine.old function }
+    requires words { params_of function ≡ I32 ∷ I32 ∷ [] }
+    ensures made { IfOk result (λ made. made ≡ (sizes_answered (argument_at machine.old.parts machine.old.config 0) (argument_at machine.old.parts machine.old.config 1) texts.now machine.old.config.store.memory.bytes).0) }
+    ensures left { IfOk result (λ made. clean machine.new.config ≡ clean (with_bytes (sizes_answered (argument_at machine.old.parts machine.old.config 0) (argument_at machine.old.parts machine.old.config 1) texts.now machine.old.config.store.memory.bytes).1 machine.old.config)) }
+    ensures parts { machine.new.parts ≡ machine.old.parts }
+    ensures err { OnErr result (clean machine.new.config ≡ clean machine.old.config) }
+{
+    let count_at = word(machine, function, 0);
+    let size_at = word(machine, function, 1);
+    let memory = machine.memory_mut();
+    sizes_made(alloc, memory, count_at, size_at, texts)
+}
+
+/// The answer to a call that asks for texts.
+fn answer_texts(
+    alloc: Global,
+    machine: &mut Machine,
+    function: HostFunction,
+    texts: &[Bytes],
+) -> Result<Made, OutOfMemory>
+    requires waits { IsWaitingFor machine.old function }
+    requires words { params_of function ≡ I32 ∷ I32 ∷ [] }
+    ensures made { IfOk result (λ made. made ≡ (texts_answered (argument_at machine.old.parts machine.old.config 0) (argument_at machine.old.parts machine.old.config 1) texts.now machine.old.config.store.memory.bytes).0) }
+    ensures left { IfOk result (λ made. clean machine.new.config ≡ clean (with_bytes (texts_answered (argument_at machine.old.parts machine.old.config 0) (argument_at machine.old.parts machine.old.config 1) texts.now machine.old.config.store.memory.bytes).1 machine.old.config)) }
+    ensures parts { machine.new.parts ≡ machine.old.parts }
+    ensures err { OnErr result (clean machine.new.config ≡ clean machine.old.config) }
+{
+    let list = word(machine, function, 0);
+    let buf = word(machine, function, 1);
+    let memory = machine.memory_mut();
+    texts_made(alloc, memory, list, buf, texts)
+}
+
+/// What the call of this import becomes, at which the machine stands. `args` are the guest's arguments; its environment is
+/// empty. For want of memory nothing changes, but for which pages are owned.
 pub fn decode(
     alloc: Global,
     machine: &mut Machine,
     import: u32,
-    _args: &Texts,
+    args: &Texts,
 ) -> Result<Made, OutOfMemory>
     requires waits { machine.old.config.waiting ≡ Some import }
     requires known { AreKnown machine.old.parts }
-    ensures made { IfOk result (λ made. made ≡ (made_at machine.old.parts _args.now import machine.old.config).0) }
-    ensures left { IfOk result (λ made. clean machine.new.config ≡ clean (with_bytes (made_at machine.old.parts _args.now import machine.old.config).1 machine.old.config)) }
+    ensures made { IfOk result (λ made. made ≡ (made_at machine.old.parts args.now import machine.old.config).0) }
+    ensures left { IfOk result (λ made. clean machine.new.config ≡ clean (with_bytes (made_at machine.old.parts args.now import machine.old.config).1 machine.old.config)) }
     ensures kept { IfOk result (λ made. UnlessLocal made (clean machine.new.config ≡ clean machine.old.config)) }
     ensures parts { machine.new.parts ≡ machine.old.parts }
     ensures err { OnErr result (clean machine.new.config ≡ clean machine.old.config) }
 {
     match function_of(machine, import) {
         None => Ok(Made::Live(LiveOp::Pages)),
-        Some(function) => decode_call(alloc, machine, function),
+        Some(function) => match function {
+            HostFunction::ArgsSizesGet => answer_sizes(alloc, machine, function, args.slice()),
+            HostFunction::ArgsGet => answer_texts(alloc, machine, function, args.slice()),
+            HostFunction::EnvironSizesGet => answer_sizes(alloc, machine, function, &[]),
+            HostFunction::EnvironGet => answer_texts(alloc, machine, function, &[]),
+            _ => decode_call(alloc, machine, function),
+        },
     }
 }
