@@ -44,9 +44,9 @@ stat-made filetype flags rights heirs a b c d e ea eb ec ed ee =
     let heir : e ≡ d ++ low_bytes 8 heirs = ee ∙ ap (λ z. d ++ z) (eight-bytes heirs) in
     let all : List ℕ = stat_bytes filetype flags rights heirs in
     heir ∙ part c (low_bytes 8 rights) d (low_bytes 8 heirs) all own
-        (part b (zeros 4) c (low_bytes 8 rights ++ low_bytes 8 heirs) all four
-            (part a (low_bytes 2 flags) b (zeros 4 ++ (low_bytes 8 rights ++ low_bytes 8 heirs)) all two
-                (ap (λ z. z ++ (low_bytes 2 flags ++ (zeros 4 ++ (low_bytes 8 rights ++ low_bytes 8 heirs)))) ea)))
+    (part b (zeros 4) c (low_bytes 8 rights ++ low_bytes 8 heirs) all four
+    (part a (low_bytes 2 flags) b (zeros 4 ++ (low_bytes 8 rights ++ low_bytes 8 heirs)) all two
+    (ap (λ z. z ++ (low_bytes 2 flags ++ (zeros 4 ++ (low_bytes 8 rights ++ low_bytes 8 heirs)))) ea)))
 
 -- an event from its parts
 pub event-made : (m : List ℕ) (subs place : ℕ) (happened : Happened) (o a b c d e f g : List ℕ) → place ≡ subs + 48 * happened.sub →
@@ -64,11 +64,11 @@ event-made m subs place happened o a b c d e f g at ea eb ec ed ee ef eg =
     let six : g ≡ f ++ zeros 6 = eg ∙ ap (λ z. f ++ z) zeros-six in
     let all : List ℕ = o ++ event_bytes m subs happened in
     six ∙ part e (low_bytes 2 happened.flags) f (zeros 6) all flags (
-        part d (low_bytes 8 happened.nbytes) e (low_bytes 2 happened.flags ++ zeros 6) all count (
-            part c (zeros 5) d (low_bytes 8 happened.nbytes ++ (low_bytes 2 happened.flags ++ zeros 6)) all five (
-                part b (slice_range m (subs + 48 * happened.sub + 8) (subs + 48 * happened.sub + 9)) c (zeros 5 ++ (low_bytes 8 happened.nbytes ++ (low_bytes 2 happened.flags ++ zeros 6))) all tag (
-                    part a (low_bytes 2 happened.error) b (slice_range m (subs + 48 * happened.sub + 8) (subs + 48 * happened.sub + 9) ++ (zeros 5 ++ (low_bytes 8 happened.nbytes ++ (low_bytes 2 happened.flags ++ zeros 6)))) all error (
-                        part o (slice_range m (subs + 48 * happened.sub) (subs + 48 * happened.sub + 8)) a (low_bytes 2 happened.error ++ (slice_range m (subs + 48 * happened.sub + 8) (subs + 48 * happened.sub + 9) ++ (zeros 5 ++ (low_bytes 8 happened.nbytes ++ (low_bytes 2 happened.flags ++ zeros 6))))) all user refl)))))
+    part d (low_bytes 8 happened.nbytes) e (low_bytes 2 happened.flags ++ zeros 6) all count (
+    part c (zeros 5) d (low_bytes 8 happened.nbytes ++ (low_bytes 2 happened.flags ++ zeros 6)) all five (
+    part b (slice_range m (subs + 48 * happened.sub + 8) (subs + 48 * happened.sub + 9)) c (zeros 5 ++ (low_bytes 8 happened.nbytes ++ (low_bytes 2 happened.flags ++ zeros 6))) all tag (
+    part a (low_bytes 2 happened.error) b (slice_range m (subs + 48 * happened.sub + 8) (subs + 48 * happened.sub + 9) ++ (zeros 5 ++ (low_bytes 8 happened.nbytes ++ (low_bytes 2 happened.flags ++ zeros 6)))) all error (
+    part o (slice_range m (subs + 48 * happened.sub) (subs + 48 * happened.sub + 8)) a (low_bytes 2 happened.error ++ (slice_range m (subs + 48 * happened.sub + 8) (subs + 48 * happened.sub + 9) ++ (zeros 5 ++ (low_bytes 8 happened.nbytes ++ (low_bytes 2 happened.flags ++ zeros 6))))) all user refl)))))
 
 -- ---- the events, one by one
 

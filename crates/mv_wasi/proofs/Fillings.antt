@@ -59,9 +59,9 @@ pub filled-more : (xs : List (ℕ × ℕ)) (i done some : ℕ) (d : ℕ × ℕ) 
 unfolding scattered
 filled-more xs i done some d bytes m all lt le e whole =
     sym (
-        ap (λ (ys : List (ℕ × ℕ)). scattered ys (drop done bytes) m) (drop_more xs i d lt)
-        ∙ ap (λ b. scattered (drop (i + 1) xs) b (written m (get_or xs i d).0 (take (get_or xs i d).1 (drop done bytes)))) (left-over bytes done (get_or xs i d).1 some le e)
-        ∙ ap (λ b. scattered (drop (i + 1) xs) (drop (done + some) bytes) (written m (get_or xs i d).0 b)) (put-in bytes done (get_or xs i d).1 some le e))
+    ap (λ (ys : List (ℕ × ℕ)). scattered ys (drop done bytes) m) (drop_more xs i d lt)
+    ∙ ap (λ b. scattered (drop (i + 1) xs) b (written m (get_or xs i d).0 (take (get_or xs i d).1 (drop done bytes)))) (left-over bytes done (get_or xs i d).1 some le e)
+    ∙ ap (λ b. scattered (drop (i + 1) xs) (drop (done + some) bytes) (written m (get_or xs i d).0 b)) (put-in bytes done (get_or xs i d).1 some le e))
     ∙ whole
 
 -- all were filled

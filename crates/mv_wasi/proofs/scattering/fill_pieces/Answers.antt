@@ -30,4 +30,4 @@ pub returns : goal.returns
 returns c =
     c.loop-place.invariant.same
     ∙ ap (λ z. let r : Contents = record c.args.memory.now { bytes = z } in r)
-        (filled-all c.args.pieces.now c.loop-place.place-index (drop c.loop-place.done c.args.bytes.now) c.loop-place.memory.bytes _ (omega arith) c.loop-place.invariant.whole)
+    (filled-all c.args.pieces.now c.loop-place.place-index (drop c.loop-place.done c.args.bytes.now) c.loop-place.memory.bytes _ (omega arith) c.loop-place.invariant.whole)
