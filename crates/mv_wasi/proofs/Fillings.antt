@@ -6,7 +6,7 @@ use Rattle.std.proofs.lemmas.List.{drop_more, drop_all, drop-drop, take_all, len
 use Rattle.mv_memory.specs.Bytes.{written}
 use Rattle.mv_memory.specs.Memory.{Contents}
 use Rattle.mv_memory.proofs.BytesLemmas.{length-written}
-use Rattle.mv_wasi.specs.Ranges.{pieces, piece_at, scattered}
+use Rattle.mv_wasi.specs.Ranges.{piece_at, scattered}
 use Rattle.mv_wasi.specs.Readies.{HasRange, HasRanges}
 use Rattle.mv_wasi.proofs.Pieces.{rest_of, rest_is, rest_is_none}
 use Rattle.mv_wasi.proofs.Owning.{ranges-written}

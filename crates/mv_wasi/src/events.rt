@@ -15,13 +15,13 @@ use mv_memory::Memory;
 use std::alloc::Global;
 
 /// The bytes of as many events as one call may have.
-const MOST_BYTES: usize = 32_768;
+const MOST_BYTES: usize = 32 * VECTOR_LIMIT as usize;
 
 /// Adds bytes of the memory, for which there is room.
 fn push_range(memory: &Memory, place: u64, len: u64, bytes: &mut ArrayVec<u8, MOST_BYTES>)
     requires within { place + len ≤ length memory.now.bytes }
     requires small { place < 2 ^ 40 }
-    requires room { array_vec_len bytes.old + len ≤ 32768 }
+    requires room { array_vec_len bytes.old + len ≤ MOST_BYTES }
     ensures { bytes.new.items ≡ bytes.old.items ++ slice_range memory.now.bytes place (place + len) }
 {
     for index in 0..len {
@@ -32,7 +32,7 @@ fn push_range(memory: &Memory, place: u64, len: u64, bytes: &mut ArrayVec<u8, MO
 /// Adds the bytes of one event, with the userdata and the tag of its subscription.
 fn push_event(memory: &Memory, subs: u32, happened: Happened, bytes: &mut ArrayVec<u8, MOST_BYTES>)
     requires within { subs + 48 * happened.sub + 48 ≤ length memory.now.bytes }
-    requires room { array_vec_len bytes.old + 32 ≤ 32768 }
+    requires room { array_vec_len bytes.old + 32 ≤ MOST_BYTES }
     ensures bytes { bytes.new.items ≡ bytes.old.items ++ event_bytes memory.now.bytes subs happened }
     ensures len { array_vec_len bytes.new ≡ array_vec_len bytes.old + 32 }
 {
@@ -60,7 +60,8 @@ fn bytes_of(memory: &Memory, subs: u32, happened: &[Happened]) -> ArrayVec<u8, M
     bytes
 }
 
-/// Makes ready what the answer to a poll with so many subscriptions writes: the events, and the place of their number.
+/// Makes ready what the answer to a poll with so many subscriptions writes: the events, and the place of their number. An array
+/// that is out of bounds, or of more than one call may have, is answered as want of memory: `decode` makes no such call.
 pub fn own_events(
     alloc: Global,
     memory: &mut Memory,

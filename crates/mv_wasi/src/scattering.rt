@@ -12,7 +12,7 @@ use mv_memory::Memory;
 use std::alloc::Global;
 
 /// How many pieces one call may have.
-const MOST_PIECES: usize = 1_024;
+const MOST_PIECES: usize = VECTOR_LIMIT as usize;
 
 /// The places and the lengths of the pieces, beside the memory: what fills one piece may lie over the array of all.
 fn pieces_of(memory: &Memory, iovs: u32, count: u32) -> ArrayVec<(u32, u32), MOST_PIECES>
@@ -38,7 +38,8 @@ fn own_pieces(alloc: Global, memory: &mut Memory, pieces: &[(u32, u32)]) -> Resu
     Ok(())
 }
 
-/// Makes ready what the answer to a read writes: the pieces, and the place of the count.
+/// Makes ready what the answer to a read writes: the pieces, and the place of the count. An array that is out of bounds, or of
+/// more than one call may have, is answered as want of memory: `decode` makes no such call.
 pub fn own_read(
     alloc: Global,
     memory: &mut Memory,

@@ -11,7 +11,7 @@ use mv_calls::OutOfMemory;
 use mv_memory::Memory;
 use std::alloc::Global;
 
-/// Makes a range ready to be written. A range that is out of bounds is answered as want of memory: no call has such a one.
+/// Makes a range ready to be written. A range that is out of bounds is answered as want of memory: `decode` makes no such call.
 pub fn own_range(
     alloc: Global,
     memory: &mut Memory,

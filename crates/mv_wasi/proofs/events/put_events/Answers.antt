@@ -1,4 +1,4 @@
-use Rattle.std.proofs.Common.{arith, sym, ap, subst, ◌∙◌, length}
+use Rattle.std.proofs.Common.{arith, sym, ap, subst, length}
 use Rattle.mv_memory.specs.Bytes.{written}
 use Rattle.mv_memory.proofs.BytesLemmas.{length-written}
 use Rattle.mv_wasi.specs.Readies.{HasRange}

@@ -1,4 +1,4 @@
-use Rattle.std.proofs.Common.{arith, sym, ap, subst, ◌∙◌, ◌≡◌, ◌+◌, drop, get_or, ℕ, List, length}
+use Rattle.std.proofs.Common.{arith, sym, ap, subst, ◌∙◌, ◌+◌, drop, get_or, ℕ, List}
 use Rattle.std.specs.Prelude.{slice_range}
 use Rattle.mv_memory.specs.Bytes.{written}
 use Rattle.mv_memory.specs.Memory.{Contents}

@@ -1,4 +1,4 @@
-use Rattle.std.proofs.Common.{arith, sym, ap, subst, ◌∙◌, length}
+use Rattle.std.proofs.Common.{sym, subst, ◌∙◌}
 use Rattle.mv_wasi.specs.Ranges.{scattered}
 use Rattle.mv_wasi.specs.Readies.{HasRange, HasRanges}
 use Rattle.mv_wasi.proofs.Owning.{range-written}
