@@ -1,7 +1,7 @@
 //! Answers that lie over what they are read from.
 
 use crate::events::{own_events, put_events};
-use crate::scattering::{own_read, put_read};
+use crate::iovecs::{own_read, put_read};
 use mv_calls::Happened;
 use mv_memory::Memory;
 use std::test::Fail;

@@ -7,8 +7,8 @@ ghost use Rattle.mv_wasi.specs.Ranges.{vector_limit, with_number};
 ghost use Rattle.mv_wasi.specs.Polls.{event_bytes, events_bytes};
 ghost use Rattle.mv_wasi.specs.Readies.{HasArray, HasRanges, HaveSubs};
 
+use crate::filling::{own_range, push_all, write_bytes, write_number};
 use crate::ranges::{VECTOR_LIMIT, lies_within, number_at};
-use crate::writing::{own_range, push_all, write_bytes, write_number};
 use arrayvec::ArrayVec;
 use mv_calls::{Happened, OutOfMemory};
 use mv_memory::Memory;

@@ -1,6 +1,6 @@
 use Rattle.std.proofs.Common.{◌++◌, ◌∷◌, [], ap, ◌∙◌}
 use Rattle.mv_wasi.proofs.EventBytes.{stat-made}
-use Rattle.mv_wasi.proofs.stats.bytes_of_stat.Goals as goal
+use Rattle.mv_wasi.proofs.fdstat.bytes_of_stat.Goals as goal
 
 pub returns : goal.returns
 returns c =

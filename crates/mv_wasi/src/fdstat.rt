@@ -2,7 +2,7 @@
 ghost use Rattle.std.specs.Prelude.{◌≡◌};
 ghost use Rattle.mv_wasi.specs.Answers.{stat_bytes};
 
-use crate::writing::push_all;
+use crate::filling::push_all;
 use arrayvec::ArrayVec;
 
 /// The bytes of an fdstat.

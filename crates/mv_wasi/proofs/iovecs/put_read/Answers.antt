@@ -3,7 +3,7 @@ use Rattle.mv_wasi.specs.Ranges.{scattered}
 use Rattle.mv_wasi.specs.Readies.{HasRange, HasRanges}
 use Rattle.mv_wasi.proofs.Owning.{range-written}
 use Rattle.mv_wasi.proofs.Fillings.{length-scattered}
-use Rattle.mv_wasi.proofs.scattering.put_read.Goals as goal
+use Rattle.mv_wasi.proofs.iovecs.put_read.Goals as goal
 
 pub write_number-requires-clause-ready : goal.write_number-requires-clause-ready
 write_number-requires-clause-ready c =

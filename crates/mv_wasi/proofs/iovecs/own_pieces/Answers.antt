@@ -1,6 +1,6 @@
 use Rattle.std.proofs.Common.{arith}
 use Rattle.mv_wasi.proofs.Owning.{bytes-then, ranges-kept, ranges-more}
-use Rattle.mv_wasi.proofs.scattering.own_pieces.Goals as goal
+use Rattle.mv_wasi.proofs.iovecs.own_pieces.Goals as goal
 
 pub loop-place-preserved : goal.loop-place-preserved
 loop-place-preserved c = record {

@@ -4,8 +4,8 @@ ghost use Rattle.mv_memory.specs.Memory.{HasBytes};
 ghost use Rattle.mv_wasi.specs.Ranges.{pieces as pieces_in, scattered, vector_limit, with_number};
 ghost use Rattle.mv_wasi.specs.Readies.{HasArray, HasRange, HasRanges};
 
+use crate::filling::{own_range, write_bytes, write_number};
 use crate::ranges::{VECTOR_LIMIT, lies_within, piece_at};
-use crate::writing::{own_range, write_bytes, write_number};
 use arrayvec::ArrayVec;
 use mv_calls::OutOfMemory;
 use mv_memory::Memory;

@@ -1,7 +1,7 @@
 use Rattle.std.proofs.Common.{◌≡◌, ◌≤◌, drop, length}
 use Rattle.mv_wasi.specs.Ranges.{scattered}
 use Rattle.mv_wasi.specs.Readies.{HasRanges}
-use Rattle.mv_wasi.proofs.scattering.fill_pieces.Given as goal
+use Rattle.mv_wasi.proofs.iovecs.fill_pieces.Given as goal
 
 abbrev pub invariant-loop-place : goal.invariant-loop-place
 invariant-loop-place l = record {

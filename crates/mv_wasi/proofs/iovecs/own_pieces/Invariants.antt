@@ -1,7 +1,7 @@
 use Rattle.std.proofs.Common.{take}
 use Rattle.mv_memory.specs.Memory.{HasBytes}
 use Rattle.mv_wasi.specs.Readies.{HasRanges}
-use Rattle.mv_wasi.proofs.scattering.own_pieces.Given as goal
+use Rattle.mv_wasi.proofs.iovecs.own_pieces.Given as goal
 
 abbrev pub invariant-loop-place : goal.invariant-loop-place
 invariant-loop-place l = record {

@@ -7,7 +7,7 @@ use Rattle.mv_wasi.specs.Ranges.{scattered}
 use Rattle.mv_wasi.specs.Readies.{HasRanges}
 use Rattle.mv_wasi.proofs.Owning.{ranges-written, same-written}
 use Rattle.mv_wasi.proofs.Fillings.{chunk-length, filled-more, filled-all, ranges-first}
-use Rattle.mv_wasi.proofs.scattering.fill_pieces.Goals as goal
+use Rattle.mv_wasi.proofs.iovecs.fill_pieces.Goals as goal
 
 pub loop-place-preserved : goal.loop-place-preserved
 loop-place-preserved c =

@@ -1,6 +1,6 @@
 use Rattle.std.proofs.Common.{arith}
 use Rattle.mv_wasi.proofs.Fillings.{collected-more, collected-all}
-use Rattle.mv_wasi.proofs.scattering.pieces_of.Goals as goal
+use Rattle.mv_wasi.proofs.iovecs.pieces_of.Goals as goal
 
 pub loop-index-preserved : goal.loop-index-preserved
 loop-index-preserved c = record {
