@@ -1,7 +1,7 @@
 //! The rows of the table of the scripted kernel.
 
 use super::*;
-use mv_calls::{Bytes, Call, Happened, OutOfMemory, Reply, Room, Sub, Subs, Texts};
+use mv_calls::{Bytes, Call, Happened, Happenings, Reply, Room, Sub, Subs, Texts};
 use mv_outside::Kernel;
 use std::alloc::Global;
 use std::test::Fail;
@@ -41,24 +41,53 @@ fn ask(alloc: Global, kernel: &mut MemKernel, call: &Call) -> Result<Reply, Fail
     Ok(kernel.perform(call, room).ok().ok_or("a reply")?)
 }
 
-fn accept(alloc: Global, kernel: &mut MemKernel, fd: u32) -> Result<Reply, Fail> {
-    ask(alloc, kernel, &Call::Accept { fd, flags: 0 })
-}
-
-fn read(alloc: Global, kernel: &mut MemKernel, fd: u32, cap: u32) -> Result<Reply, Fail> {
-    ask(alloc, kernel, &Call::Read { fd, cap })
-}
-
-fn write(alloc: Global, kernel: &mut MemKernel, fd: u32, bytes: &[u8]) -> Result<Reply, Fail> {
-    let bytes = Bytes::from_slice(alloc, bytes)?;
-    ask(alloc, kernel, &Call::Write { fd, bytes })
-}
-
-/// Whether the reply is these bytes.
-fn is_bytes(reply: &Reply, bytes: &[u8]) -> bool {
-    match reply {
-        Reply::Bytes(found) => found.slice() == bytes,
+/// Whether both replies are the same; bytes and events are compared elsewhere.
+fn is_same(reply: &Reply, wanted: &Reply) -> bool {
+    match (reply, wanted) {
+        (Reply::Errno(found), Reply::Errno(errno)) => found == errno,
+        (Reply::Done, Reply::Done) => true,
+        (Reply::Count(found), Reply::Count(count)) => found == count,
+        (Reply::Fd(found), Reply::Fd(fd)) => found == fd,
+        (Reply::Time(found), Reply::Time(time)) => found == time,
         _ => false,
+    }
+}
+
+/// Whether the call is answered so.
+fn answers(alloc: Global, kernel: &mut MemKernel, call: Call, wanted: Reply) -> Result<bool, Fail> {
+    Ok(is_same(&ask(alloc, kernel, &call)?, &wanted))
+}
+
+/// Whether the call is answered with these bytes.
+fn gives(alloc: Global, kernel: &mut MemKernel, call: Call, bytes: &[u8]) -> Result<bool, Fail> {
+    match ask(alloc, kernel, &call)? {
+        Reply::Bytes(found) => Ok(found.slice() == bytes),
+        _ => Ok(false),
+    }
+}
+
+/// Whether a write of these bytes is answered so.
+fn takes(
+    alloc: Global,
+    kernel: &mut MemKernel,
+    fd: u32,
+    bytes: &[u8],
+    wanted: Reply,
+) -> Result<bool, Fail> {
+    let bytes = Bytes::from_slice(alloc, bytes)?;
+    answers(alloc, kernel, Call::Write { fd, bytes }, wanted)
+}
+
+/// The filetype of a descriptor with rights 66 and nothing else, or 0.
+fn filetype_of(alloc: Global, kernel: &mut MemKernel, fd: u32) -> Result<u8, Fail> {
+    match ask(alloc, kernel, &Call::FdStat { fd })? {
+        Reply::Stat {
+            filetype,
+            flags: 0,
+            rights: 66,
+            heirs: 0,
+        } => Ok(filetype),
+        _ => Ok(0),
     }
 }
 
@@ -66,9 +95,30 @@ fn is_bytes(reply: &Reply, bytes: &[u8]) -> bool {
 fn a_connection_is_accepted_once(rt: HostRuntime) -> Result<(), Fail> {
     let alloc = rt.alloc();
     let mut kernel = with_piece(alloc, b"abc", true)?;
-    assert!(rt; matches!(accept(alloc, &mut kernel, 3)?, Reply::Fd(4)));
-    assert!(rt; matches!(accept(alloc, &mut kernel, 3)?, Reply::Errno(6)));
-    assert!(rt; matches!(accept(alloc, &mut kernel, 1)?, Reply::Errno(8)));
+    assert!(rt;
+        answers(
+            alloc,
+            &mut kernel,
+            Call::Accept { fd: 3, flags: 0 },
+            Reply::Fd(4)
+        )?
+    );
+    assert!(rt;
+        answers(
+            alloc,
+            &mut kernel,
+            Call::Accept { fd: 3, flags: 0 },
+            Reply::Errno(6)
+        )?
+    );
+    assert!(rt;
+        answers(
+            alloc,
+            &mut kernel,
+            Call::Accept { fd: 1, flags: 0 },
+            Reply::Errno(8)
+        )?
+    );
     assert_eq!(rt; kernel.done().len(), 3);
     Ok(())
 }
@@ -77,94 +127,114 @@ fn a_connection_is_accepted_once(rt: HostRuntime) -> Result<(), Fail> {
 fn a_piece_is_read_in_parts(rt: HostRuntime) -> Result<(), Fail> {
     let alloc = rt.alloc();
     let mut kernel = with_piece(alloc, b"abc", true)?;
-    assert!(rt; matches!(read(alloc, &mut kernel, 4, 2)?, Reply::Errno(8)));
-    accept(alloc, &mut kernel, 3)?;
-    assert!(rt; is_bytes(&read(alloc, &mut kernel, 4, 2)?, b"ab"));
-    assert!(rt; is_bytes(&read(alloc, &mut kernel, 4, 0)?, b""));
-    assert!(rt; is_bytes(&read(alloc, &mut kernel, 4, 2)?, b"c"));
-    assert!(rt; is_bytes(&read(alloc, &mut kernel, 4, 2)?, b""));
-    assert!(rt; is_bytes(&read(alloc, &mut kernel, 0, 2)?, b""));
-    assert!(rt; matches!(read(alloc, &mut kernel, 9, 2)?, Reply::Errno(8)));
-    let mut open = with_piece(alloc, b"abc", false)?;
-    accept(alloc, &mut open, 3)?;
-    assert!(rt; is_bytes(&read(alloc, &mut open, 4, 64)?, b"abc"));
-    assert!(rt; matches!(read(alloc, &mut open, 4, 64)?, Reply::Errno(6)));
+    ask(alloc, &mut kernel, &Call::Accept { fd: 3, flags: 0 })?;
+    assert!(rt; gives(alloc, &mut kernel, Call::Read { fd: 4, cap: 2 }, b"ab")?);
+    assert!(rt; gives(alloc, &mut kernel, Call::Read { fd: 4, cap: 2 }, b"c")?);
+    assert!(rt; gives(alloc, &mut kernel, Call::Read { fd: 4, cap: 2 }, b"")?);
+    assert!(rt;
+        answers(
+            alloc,
+            &mut kernel,
+            Call::Read { fd: 9, cap: 2 },
+            Reply::Errno(8)
+        )?
+    );
     Ok(())
 }
 
 #[test]
-fn descriptors_are_written_and_closed(rt: HostRuntime) -> Result<(), Fail> {
+fn a_connection_without_an_end_is_read_again(rt: HostRuntime) -> Result<(), Fail> {
+    let alloc = rt.alloc();
+    let mut kernel = with_piece(alloc, b"abc", false)?;
+    ask(alloc, &mut kernel, &Call::Accept { fd: 3, flags: 0 })?;
+    assert!(rt; gives(alloc, &mut kernel, Call::Read { fd: 4, cap: 64 }, b"abc")?);
+    assert!(rt;
+        answers(
+            alloc,
+            &mut kernel,
+            Call::Read { fd: 4, cap: 64 },
+            Reply::Errno(6)
+        )?
+    );
+    Ok(())
+}
+
+#[test]
+fn what_is_written_is_taken_whole(rt: HostRuntime) -> Result<(), Fail> {
     let alloc = rt.alloc();
     let mut kernel = with_piece(alloc, b"abc", true)?;
-    accept(alloc, &mut kernel, 3)?;
-    assert!(rt; matches!(write(alloc, &mut kernel, 1, b"hi\n")?, Reply::Count(3)));
-    assert!(rt; matches!(write(alloc, &mut kernel, 4, b"OK")?, Reply::Count(2)));
-    assert!(rt; matches!(write(alloc, &mut kernel, 9, b"OK")?, Reply::Errno(8)));
-    let shutdown = Call::Shutdown { fd: 4, how: 3 };
-    assert!(rt; matches!(ask(alloc, &mut kernel, &shutdown)?, Reply::Done));
-    assert!(rt; is_bytes(&read(alloc, &mut kernel, 4, 1)?, b"a"));
-    let close = Call::Close { fd: 4 };
-    assert!(rt; matches!(ask(alloc, &mut kernel, &close)?, Reply::Done));
-    assert!(rt; matches!(ask(alloc, &mut kernel, &close)?, Reply::Errno(8)));
-    assert!(rt; matches!(read(alloc, &mut kernel, 4, 1)?, Reply::Errno(8)));
+    ask(alloc, &mut kernel, &Call::Accept { fd: 3, flags: 0 })?;
+    assert!(rt; takes(alloc, &mut kernel, 1, b"hi\n", Reply::Count(3))?);
+    assert!(rt; takes(alloc, &mut kernel, 4, b"OK", Reply::Count(2))?);
+    assert!(rt; takes(alloc, &mut kernel, 9, b"OK", Reply::Errno(8))?);
+    Ok(())
+}
+
+#[test]
+fn a_closed_descriptor_is_unknown(rt: HostRuntime) -> Result<(), Fail> {
+    let alloc = rt.alloc();
+    let mut kernel = with_piece(alloc, b"abc", true)?;
+    ask(alloc, &mut kernel, &Call::Accept { fd: 3, flags: 0 })?;
+    assert!(rt;
+        answers(
+            alloc,
+            &mut kernel,
+            Call::Shutdown { fd: 4, how: 3 },
+            Reply::Done
+        )?
+    );
+    assert!(rt; answers(alloc, &mut kernel, Call::Close { fd: 4 }, Reply::Done)?);
+    assert!(rt;
+        answers(
+            alloc,
+            &mut kernel,
+            Call::Read { fd: 4, cap: 1 },
+            Reply::Errno(8)
+        )?
+    );
     Ok(())
 }
 
 #[test]
 fn descriptors_tell_what_they_are(rt: HostRuntime) -> Result<(), Fail> {
     let alloc = rt.alloc();
-    let mut kernel = with_piece(alloc, b"abc", true)?;
-    let output = ask(alloc, &mut kernel, &Call::FdStat { fd: 1 })?;
-    assert!(rt;
-        matches!(
-            output,
-            Reply::Stat {
-                filetype: 2,
-                flags: 0,
-                rights: 66,
-                heirs: 0
-            }
-        )
-    );
-    let listener = ask(alloc, &mut kernel, &Call::FdStat { fd: 3 })?;
-    assert!(rt;
-        matches!(
-            listener,
-            Reply::Stat {
-                filetype: 6,
-                flags: 0,
-                rights: 66,
-                heirs: 0
-            }
-        )
-    );
-    let unknown = ask(alloc, &mut kernel, &Call::FdStat { fd: 4 })?;
-    assert!(rt; matches!(unknown, Reply::Errno(8)));
-    assert!(rt; matches!(ask(alloc, &mut kernel, &Call::Yield)?, Reply::Done));
+    let mut kernel = play(alloc, quiet(alloc))?;
+    assert_eq!(rt; filetype_of(alloc, &mut kernel, 1)?, 2);
+    assert_eq!(rt; filetype_of(alloc, &mut kernel, 3)?, 6);
+    assert!(rt; answers(alloc, &mut kernel, Call::Yield, Reply::Done)?);
     Ok(())
 }
 
 #[test]
-fn times_end_with_the_last_and_random_bytes_start_again(rt: HostRuntime) -> Result<(), Fail> {
+fn the_last_time_is_given_again(rt: HostRuntime) -> Result<(), Fail> {
     let alloc = rt.alloc();
-    let mut times = Vec::new(alloc);
-    times.push(5)?;
-    times.push(7)?;
     let mut script = quiet(alloc);
-    script.clock = Numbers::from_vec(times);
+    script.clock = Numbers::from_vec(Vec::from_slice(alloc, &[5, 7])?);
+    let mut kernel = play(alloc, script)?;
+    assert!(rt; answers(alloc, &mut kernel, Call::Clock { id: 0 }, Reply::Time(5))?);
+    assert!(rt; answers(alloc, &mut kernel, Call::Clock { id: 0 }, Reply::Time(7))?);
+    assert!(rt; answers(alloc, &mut kernel, Call::Clock { id: 0 }, Reply::Time(7))?);
+    Ok(())
+}
+
+#[test]
+fn random_bytes_start_again(rt: HostRuntime) -> Result<(), Fail> {
+    let alloc = rt.alloc();
+    let mut script = quiet(alloc);
     script.random = Bytes::from_slice(alloc, b"ab")?;
     let mut kernel = play(alloc, script)?;
-    let clock = Call::Clock { id: 0 };
-    assert!(rt; matches!(ask(alloc, &mut kernel, &clock)?, Reply::Time(5)));
-    assert!(rt; matches!(ask(alloc, &mut kernel, &clock)?, Reply::Time(7)));
-    assert!(rt; matches!(ask(alloc, &mut kernel, &clock)?, Reply::Time(7)));
-    let three = Call::Random { len: 3 };
-    assert!(rt; is_bytes(&ask(alloc, &mut kernel, &three)?, b"aba"));
-    assert!(rt; is_bytes(&ask(alloc, &mut kernel, &three)?, b"bab"));
-    let mut bare = play(alloc, quiet(alloc))?;
-    assert!(rt; matches!(ask(alloc, &mut bare, &clock)?, Reply::Time(0)));
-    assert!(rt; is_bytes(&ask(alloc, &mut bare, &three)?, &[0, 0, 0]));
+    assert!(rt; gives(alloc, &mut kernel, Call::Random { len: 3 }, b"aba")?);
+    assert!(rt; gives(alloc, &mut kernel, Call::Random { len: 3 }, b"bab")?);
     Ok(())
+}
+
+/// The events of a poll.
+fn found(alloc: Global, kernel: &mut MemKernel, subs: &[Sub]) -> Result<Happenings, Fail> {
+    let subs = Subs::from_slice(alloc, subs)?;
+    match ask(alloc, kernel, &Call::Poll { subs })? {
+        Reply::Ready(events) => Ok(events),
+        _ => Err("events".into()),
+    }
 }
 
 #[test]
@@ -176,12 +246,7 @@ fn a_poll_tells_what_is_ready(rt: HostRuntime) -> Result<(), Fail> {
         timeout: 1,
         flags: 0,
     };
-    let subs = [clock, Sub::Read { fd: 9 }, Sub::Read { fd: 3 }];
-    let subs = Subs::from_slice(alloc, &subs)?;
-    let found = match ask(alloc, &mut kernel, &Call::Poll { subs })? {
-        Reply::Ready(events) => events,
-        _ => return Err("events".into()),
-    };
+    let events = found(alloc, &mut kernel, &[clock, Sub::Read { fd: 9 }])?;
     let timed = Happened {
         sub: 0,
         error: 0,
@@ -194,24 +259,21 @@ fn a_poll_tells_what_is_ready(rt: HostRuntime) -> Result<(), Fail> {
         nbytes: 0,
         flags: 0,
     };
-    assert_eq!(rt; found.slice(), [timed, unknown].as_slice());
+    assert_eq!(rt; events.slice(), [timed, unknown].as_slice());
     Ok(())
 }
 
 #[test]
 fn a_named_call_fails_and_is_only_counted(rt: HostRuntime) -> Result<(), Fail> {
     let alloc = rt.alloc();
-    let mut fail = Vec::new(alloc);
-    fail.push(0)?;
     let mut script = quiet(alloc);
-    script.fail = Numbers::from_vec(fail);
+    script.fail = Numbers::from_vec(Vec::from_slice(alloc, &[0])?);
     let mut kernel = play(alloc, script)?;
-    let call = Call::Yield;
-    kernel.ready(alloc, &call)?;
-    let room = Room::make(alloc, &call)?;
-    assert!(rt; kernel.perform(&call, room).is_err());
+    kernel.ready(alloc, &Call::Yield)?;
+    let room = Room::make(alloc, &Call::Yield)?;
+    assert!(rt; kernel.perform(&Call::Yield, room).is_err());
     assert_eq!(rt; kernel.done().len(), 0);
-    assert!(rt; matches!(ask(alloc, &mut kernel, &call)?, Reply::Done));
+    assert!(rt; answers(alloc, &mut kernel, Call::Yield, Reply::Done)?);
     assert_eq!(rt; kernel.done().len(), 1);
     Ok(())
 }
