@@ -53,29 +53,62 @@ fn is_same(reply: &Reply, wanted: &Reply) -> bool {
     }
 }
 
-/// Whether the call is answered so.
-fn answers(alloc: Global, kernel: &mut MemKernel, call: Call, wanted: Reply) -> Result<bool, Fail> {
-    Ok(is_same(&ask(alloc, kernel, &call)?, &wanted))
+/// A call and what it is to be answered.
+#[derive(Drop)]
+struct Row {
+    call: Call,
+    wanted: Reply,
+}
+
+/// Whether each of the calls, done one after another, is answered so.
+fn answers(alloc: Global, kernel: &mut MemKernel, rows: &[Row]) -> Result<bool, Fail> {
+    let mut all = true;
+    for row in rows {
+        let reply = ask(alloc, kernel, &row.call)?;
+        all = all && is_same(&reply, &row.wanted);
+    }
+    Ok(all)
 }
 
 /// Whether the call is answered with these bytes.
-fn gives(alloc: Global, kernel: &mut MemKernel, call: Call, bytes: &[u8]) -> Result<bool, Fail> {
-    match ask(alloc, kernel, &call)? {
+fn gives(alloc: Global, kernel: &mut MemKernel, call: &Call, bytes: &[u8]) -> Result<bool, Fail> {
+    match ask(alloc, kernel, call)? {
         Reply::Bytes(found) => Ok(found.slice() == bytes),
         _ => Ok(false),
     }
 }
 
-/// Whether a write of these bytes is answered so.
-fn takes(
-    alloc: Global,
-    kernel: &mut MemKernel,
-    fd: u32,
-    bytes: &[u8],
-    wanted: Reply,
-) -> Result<bool, Fail> {
+/// A write, and what it is to be answered.
+fn write(alloc: Global, fd: u32, bytes: &[u8], wanted: Reply) -> Result<Row, Fail> {
     let bytes = Bytes::from_slice(alloc, bytes)?;
-    answers(alloc, kernel, Call::Write { fd, bytes }, wanted)
+    Ok(Row {
+        call: Call::Write { fd, bytes },
+        wanted,
+    })
+}
+
+/// An accept, and what it is to be answered.
+fn accept(fd: u32, wanted: Reply) -> Row {
+    Row {
+        call: Call::Accept { fd, flags: 0 },
+        wanted,
+    }
+}
+
+/// A read of up to 64 bytes, and what it is to be answered.
+fn read(fd: u32, wanted: Reply) -> Row {
+    Row {
+        call: Call::Read { fd, cap: 64 },
+        wanted,
+    }
+}
+
+/// A look at the clock.
+fn clock(time: u64) -> Row {
+    Row {
+        call: Call::Clock { id: 0 },
+        wanted: Reply::Time(time),
+    }
 }
 
 /// The filetype of a descriptor with rights 66 and nothing else, or 0.
@@ -95,30 +128,12 @@ fn filetype_of(alloc: Global, kernel: &mut MemKernel, fd: u32) -> Result<u8, Fai
 fn a_connection_is_accepted_once(rt: HostRuntime) -> Result<(), Fail> {
     let alloc = rt.alloc();
     let mut kernel = with_piece(alloc, b"abc", true)?;
-    assert!(rt;
-        answers(
-            alloc,
-            &mut kernel,
-            Call::Accept { fd: 3, flags: 0 },
-            Reply::Fd(4)
-        )?
-    );
-    assert!(rt;
-        answers(
-            alloc,
-            &mut kernel,
-            Call::Accept { fd: 3, flags: 0 },
-            Reply::Errno(6)
-        )?
-    );
-    assert!(rt;
-        answers(
-            alloc,
-            &mut kernel,
-            Call::Accept { fd: 1, flags: 0 },
-            Reply::Errno(8)
-        )?
-    );
+    let rows = [
+        accept(3, Reply::Fd(4)),
+        accept(3, Reply::Errno(6)),
+        accept(1, Reply::Errno(8)),
+    ];
+    assert!(rt; answers(alloc, &mut kernel, &rows)?);
     assert_eq!(rt; kernel.done().len(), 3);
     Ok(())
 }
@@ -127,18 +142,11 @@ fn a_connection_is_accepted_once(rt: HostRuntime) -> Result<(), Fail> {
 fn a_piece_is_read_in_parts(rt: HostRuntime) -> Result<(), Fail> {
     let alloc = rt.alloc();
     let mut kernel = with_piece(alloc, b"abc", true)?;
-    ask(alloc, &mut kernel, &Call::Accept { fd: 3, flags: 0 })?;
-    assert!(rt; gives(alloc, &mut kernel, Call::Read { fd: 4, cap: 2 }, b"ab")?);
-    assert!(rt; gives(alloc, &mut kernel, Call::Read { fd: 4, cap: 2 }, b"c")?);
-    assert!(rt; gives(alloc, &mut kernel, Call::Read { fd: 4, cap: 2 }, b"")?);
-    assert!(rt;
-        answers(
-            alloc,
-            &mut kernel,
-            Call::Read { fd: 9, cap: 2 },
-            Reply::Errno(8)
-        )?
-    );
+    assert!(rt; answers(alloc, &mut kernel, &[accept(3, Reply::Fd(4))])?);
+    let two = Call::Read { fd: 4, cap: 2 };
+    assert!(rt; gives(alloc, &mut kernel, &two, b"ab")?);
+    assert!(rt; gives(alloc, &mut kernel, &two, b"c")?);
+    assert!(rt; gives(alloc, &mut kernel, &two, b"")?);
     Ok(())
 }
 
@@ -146,16 +154,10 @@ fn a_piece_is_read_in_parts(rt: HostRuntime) -> Result<(), Fail> {
 fn a_connection_without_an_end_is_read_again(rt: HostRuntime) -> Result<(), Fail> {
     let alloc = rt.alloc();
     let mut kernel = with_piece(alloc, b"abc", false)?;
-    ask(alloc, &mut kernel, &Call::Accept { fd: 3, flags: 0 })?;
-    assert!(rt; gives(alloc, &mut kernel, Call::Read { fd: 4, cap: 64 }, b"abc")?);
-    assert!(rt;
-        answers(
-            alloc,
-            &mut kernel,
-            Call::Read { fd: 4, cap: 64 },
-            Reply::Errno(6)
-        )?
-    );
+    assert!(rt; answers(alloc, &mut kernel, &[accept(3, Reply::Fd(4))])?);
+    assert!(rt; gives(alloc, &mut kernel, &Call::Read { fd: 4, cap: 64 }, b"abc")?);
+    let rows = [read(4, Reply::Errno(6)), read(9, Reply::Errno(8))];
+    assert!(rt; answers(alloc, &mut kernel, &rows)?);
     Ok(())
 }
 
@@ -163,10 +165,13 @@ fn a_connection_without_an_end_is_read_again(rt: HostRuntime) -> Result<(), Fail
 fn what_is_written_is_taken_whole(rt: HostRuntime) -> Result<(), Fail> {
     let alloc = rt.alloc();
     let mut kernel = with_piece(alloc, b"abc", true)?;
-    ask(alloc, &mut kernel, &Call::Accept { fd: 3, flags: 0 })?;
-    assert!(rt; takes(alloc, &mut kernel, 1, b"hi\n", Reply::Count(3))?);
-    assert!(rt; takes(alloc, &mut kernel, 4, b"OK", Reply::Count(2))?);
-    assert!(rt; takes(alloc, &mut kernel, 9, b"OK", Reply::Errno(8))?);
+    let rows = [
+        accept(3, Reply::Fd(4)),
+        write(alloc, 1, b"hi\n", Reply::Count(3))?,
+        write(alloc, 4, b"OK", Reply::Count(2))?,
+        write(alloc, 9, b"OK", Reply::Errno(8))?,
+    ];
+    assert!(rt; answers(alloc, &mut kernel, &rows)?);
     Ok(())
 }
 
@@ -174,24 +179,19 @@ fn what_is_written_is_taken_whole(rt: HostRuntime) -> Result<(), Fail> {
 fn a_closed_descriptor_is_unknown(rt: HostRuntime) -> Result<(), Fail> {
     let alloc = rt.alloc();
     let mut kernel = with_piece(alloc, b"abc", true)?;
-    ask(alloc, &mut kernel, &Call::Accept { fd: 3, flags: 0 })?;
-    assert!(rt;
-        answers(
-            alloc,
-            &mut kernel,
-            Call::Shutdown { fd: 4, how: 3 },
-            Reply::Done
-        )?
-    );
-    assert!(rt; answers(alloc, &mut kernel, Call::Close { fd: 4 }, Reply::Done)?);
-    assert!(rt;
-        answers(
-            alloc,
-            &mut kernel,
-            Call::Read { fd: 4, cap: 1 },
-            Reply::Errno(8)
-        )?
-    );
+    let rows = [
+        accept(3, Reply::Fd(4)),
+        Row {
+            call: Call::Shutdown { fd: 4, how: 3 },
+            wanted: Reply::Done,
+        },
+        Row {
+            call: Call::Close { fd: 4 },
+            wanted: Reply::Done,
+        },
+        read(4, Reply::Errno(8)),
+    ];
+    assert!(rt; answers(alloc, &mut kernel, &rows)?);
     Ok(())
 }
 
@@ -201,7 +201,6 @@ fn descriptors_tell_what_they_are(rt: HostRuntime) -> Result<(), Fail> {
     let mut kernel = play(alloc, quiet(alloc))?;
     assert_eq!(rt; filetype_of(alloc, &mut kernel, 1)?, 2);
     assert_eq!(rt; filetype_of(alloc, &mut kernel, 3)?, 6);
-    assert!(rt; answers(alloc, &mut kernel, Call::Yield, Reply::Done)?);
     Ok(())
 }
 
@@ -211,9 +210,8 @@ fn the_last_time_is_given_again(rt: HostRuntime) -> Result<(), Fail> {
     let mut script = quiet(alloc);
     script.clock = Numbers::from_vec(Vec::from_slice(alloc, &[5, 7])?);
     let mut kernel = play(alloc, script)?;
-    assert!(rt; answers(alloc, &mut kernel, Call::Clock { id: 0 }, Reply::Time(5))?);
-    assert!(rt; answers(alloc, &mut kernel, Call::Clock { id: 0 }, Reply::Time(7))?);
-    assert!(rt; answers(alloc, &mut kernel, Call::Clock { id: 0 }, Reply::Time(7))?);
+    let rows = [clock(5), clock(7), clock(7)];
+    assert!(rt; answers(alloc, &mut kernel, &rows)?);
     Ok(())
 }
 
@@ -223,8 +221,8 @@ fn random_bytes_start_again(rt: HostRuntime) -> Result<(), Fail> {
     let mut script = quiet(alloc);
     script.random = Bytes::from_slice(alloc, b"ab")?;
     let mut kernel = play(alloc, script)?;
-    assert!(rt; gives(alloc, &mut kernel, Call::Random { len: 3 }, b"aba")?);
-    assert!(rt; gives(alloc, &mut kernel, Call::Random { len: 3 }, b"bab")?);
+    assert!(rt; gives(alloc, &mut kernel, &Call::Random { len: 3 }, b"aba")?);
+    assert!(rt; gives(alloc, &mut kernel, &Call::Random { len: 3 }, b"bab")?);
     Ok(())
 }
 
@@ -273,7 +271,7 @@ fn a_named_call_fails_and_is_only_counted(rt: HostRuntime) -> Result<(), Fail> {
     let room = Room::make(alloc, &Call::Yield)?;
     assert!(rt; kernel.perform(&Call::Yield, room).is_err());
     assert_eq!(rt; kernel.done().len(), 0);
-    assert!(rt; answers(alloc, &mut kernel, Call::Yield, Reply::Done)?);
+    assert!(rt; matches!(ask(alloc, &mut kernel, &Call::Yield)?, Reply::Done));
     assert_eq!(rt; kernel.done().len(), 1);
     Ok(())
 }
