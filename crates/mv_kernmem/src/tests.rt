@@ -54,19 +54,17 @@ fn told(reply: &Reply) -> (&str, u64) {
     }
 }
 
-/// A call and what it is to be answered.
-#[derive(Drop)]
-struct Answered {
-    call: Call,
-    wanted: Reply,
-}
-
 /// Whether each of the calls, done one after another, is answered so.
-fn answers(alloc: Global, kernel: &mut MemKernel, rows: &[Answered]) -> Result<bool, Fail> {
-    let mut all = true;
-    for row in rows {
-        let reply = ask(alloc, kernel, &row.call)?;
-        all = all && told(&reply) == told(&row.wanted);
+fn answers(
+    alloc: Global,
+    kernel: &mut MemKernel,
+    calls: &[Call],
+    wanted: &[(&str, u64)],
+) -> Result<bool, Fail> {
+    let mut all = calls.len() == wanted.len();
+    for (call, wanted) in calls.iter().zip(wanted) {
+        let reply = ask(alloc, kernel, call)?;
+        all = all && told(&reply) == *wanted;
     }
     Ok(all)
 }
@@ -88,57 +86,50 @@ fn events(alloc: Global, kernel: &mut MemKernel, subs: &[Sub]) -> Result<Happeni
     }
 }
 
-fn row(call: Call, wanted: Reply) -> Answered {
-    Answered { call, wanted }
+fn accept(fd: u32) -> Call {
+    Call::Accept { fd, flags: 0 }
 }
 
-fn accept(fd: u32, wanted: Reply) -> Answered {
-    row(Call::Accept { fd, flags: 0 }, wanted)
-}
-
-fn read(fd: u32, errno: u16) -> Answered {
-    row(Call::Read { fd, cap: 64 }, Reply::Errno(errno))
-}
-
-fn write(alloc: Global, fd: u32, bytes: &[u8], wanted: Reply) -> Result<Answered, Fail> {
+fn write(alloc: Global, fd: u32, bytes: &[u8]) -> Result<Call, Fail> {
     let bytes = Bytes::from_slice(alloc, bytes)?;
-    Ok(row(Call::Write { fd, bytes }, wanted))
-}
-
-fn clock(time: u64) -> Answered {
-    row(Call::Clock { id: 0 }, Reply::Time(time))
-}
-
-fn stat(fd: u32, filetype: u8) -> Answered {
-    let wanted = Reply::Stat {
-        filetype,
-        flags: 0,
-        rights: 66,
-        heirs: 0,
-    };
-    row(Call::FdStat { fd }, wanted)
+    Ok(Call::Write { fd, bytes })
 }
 
 #[test]
 fn calls_are_answered_by_their_rows(rt: HostRuntime) -> Result<(), Fail> {
     let alloc = rt.alloc();
     let mut kernel = play(alloc, true, &[])?;
-    let rows = [
-        accept(3, Reply::Fd(4)),
-        accept(3, Reply::Errno(6)),
-        accept(1, Reply::Errno(8)),
-        stat(1, 2),
-        stat(3, 6),
-        clock(5),
-        clock(7),
-        clock(7),
-        row(Call::Yield, Reply::Done),
-        row(Call::Shutdown { fd: 4, how: 3 }, Reply::Done),
-        row(Call::Close { fd: 4 }, Reply::Done),
-        read(4, 8),
-        read(9, 8),
+    let calls = [
+        accept(3),
+        accept(3),
+        accept(1),
+        Call::FdStat { fd: 1 },
+        Call::FdStat { fd: 3 },
+        Call::Clock { id: 0 },
+        Call::Clock { id: 0 },
+        Call::Clock { id: 0 },
+        Call::Yield,
+        Call::Shutdown { fd: 4, how: 3 },
+        Call::Close { fd: 4 },
+        Call::Read { fd: 4, cap: 64 },
+        Call::Read { fd: 9, cap: 64 },
     ];
-    assert!(rt; answers(alloc, &mut kernel, &rows)?);
+    let wanted = [
+        ("fd", 4),
+        ("errno", 6),
+        ("errno", 8),
+        ("stat", 2),
+        ("stat", 6),
+        ("time", 5),
+        ("time", 7),
+        ("time", 7),
+        ("done", 0),
+        ("done", 0),
+        ("done", 0),
+        ("errno", 8),
+        ("errno", 8),
+    ];
+    assert!(rt; answers(alloc, &mut kernel, &calls, &wanted)?);
     assert_eq!(rt; kernel.done().len(), 13);
     Ok(())
 }
@@ -147,13 +138,14 @@ fn calls_are_answered_by_their_rows(rt: HostRuntime) -> Result<(), Fail> {
 fn what_is_written_is_taken_whole(rt: HostRuntime) -> Result<(), Fail> {
     let alloc = rt.alloc();
     let mut kernel = play(alloc, true, &[])?;
-    let rows = [
-        accept(3, Reply::Fd(4)),
-        write(alloc, 1, b"hi\n", Reply::Count(3))?,
-        write(alloc, 4, b"OK", Reply::Count(2))?,
-        write(alloc, 9, b"OK", Reply::Errno(8))?,
+    let calls = [
+        accept(3),
+        write(alloc, 1, b"hi\n")?,
+        write(alloc, 4, b"OK")?,
+        write(alloc, 9, b"OK")?,
     ];
-    assert!(rt; answers(alloc, &mut kernel, &rows)?);
+    let wanted = [("fd", 4), ("count", 3), ("count", 2), ("errno", 8)];
+    assert!(rt; answers(alloc, &mut kernel, &calls, &wanted)?);
     Ok(())
 }
 
@@ -162,7 +154,7 @@ fn a_piece_is_read_in_parts(rt: HostRuntime) -> Result<(), Fail> {
     let alloc = rt.alloc();
     let mut kernel = play(alloc, true, &[])?;
     let two = Call::Read { fd: 4, cap: 2 };
-    assert!(rt; answers(alloc, &mut kernel, &[accept(3, Reply::Fd(4))])?);
+    assert!(rt; answers(alloc, &mut kernel, &[accept(3)], &[("fd", 4)])?);
     assert!(rt; gives(alloc, &mut kernel, &two, b"ab")?);
     assert!(rt; gives(alloc, &mut kernel, &two, b"c")?);
     assert!(rt; gives(alloc, &mut kernel, &two, b"")?);
@@ -173,9 +165,16 @@ fn a_piece_is_read_in_parts(rt: HostRuntime) -> Result<(), Fail> {
 fn without_an_end_a_read_is_to_be_tried_again(rt: HostRuntime) -> Result<(), Fail> {
     let alloc = rt.alloc();
     let mut kernel = play(alloc, false, &[])?;
-    assert!(rt; answers(alloc, &mut kernel, &[accept(3, Reply::Fd(4))])?);
+    assert!(rt; answers(alloc, &mut kernel, &[accept(3)], &[("fd", 4)])?);
     assert!(rt; gives(alloc, &mut kernel, &Call::Read { fd: 4, cap: 64 }, b"abc")?);
-    assert!(rt; answers(alloc, &mut kernel, &[read(4, 6)])?);
+    assert!(rt;
+        answers(
+            alloc,
+            &mut kernel,
+            &[Call::Read { fd: 4, cap: 64 }],
+            &[("errno", 6)]
+        )?
+    );
     assert!(rt; gives(alloc, &mut kernel, &Call::Random { len: 3 }, b"aba")?);
     Ok(())
 }
@@ -214,7 +213,7 @@ fn a_named_call_fails_and_is_only_counted(rt: HostRuntime) -> Result<(), Fail> {
     let room = Room::make(alloc, &Call::Yield)?;
     assert!(rt; kernel.perform(&Call::Yield, room).is_err());
     assert_eq!(rt; kernel.done().len(), 0);
-    assert!(rt; answers(alloc, &mut kernel, &[row(Call::Yield, Reply::Done)])?);
+    assert!(rt; answers(alloc, &mut kernel, &[Call::Yield], &[("done", 0)])?);
     assert_eq!(rt; kernel.done().len(), 1);
     Ok(())
 }
