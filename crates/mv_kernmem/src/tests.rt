@@ -90,11 +90,6 @@ fn accept(fd: u32) -> Call {
     Call::Accept { fd, flags: 0 }
 }
 
-fn write(alloc: Global, fd: u32, bytes: &[u8]) -> Result<Call, Fail> {
-    let bytes = Bytes::from_slice(alloc, bytes)?;
-    Ok(Call::Write { fd, bytes })
-}
-
 #[test]
 fn calls_are_answered_by_their_rows(rt: HostRuntime) -> Result<(), Fail> {
     let alloc = rt.alloc();
@@ -140,9 +135,18 @@ fn what_is_written_is_taken_whole(rt: HostRuntime) -> Result<(), Fail> {
     let mut kernel = play(alloc, true, &[])?;
     let calls = [
         accept(3),
-        write(alloc, 1, b"hi\n")?,
-        write(alloc, 4, b"OK")?,
-        write(alloc, 9, b"OK")?,
+        Call::Write {
+            fd: 1,
+            bytes: Bytes::from_slice(alloc, b"hi\n")?,
+        },
+        Call::Write {
+            fd: 4,
+            bytes: Bytes::from_slice(alloc, b"OK")?,
+        },
+        Call::Write {
+            fd: 9,
+            bytes: Bytes::from_slice(alloc, b"OK")?,
+        },
     ];
     let wanted = [("fd", 4), ("count", 3), ("count", 2), ("errno", 8)];
     assert!(rt; answers(alloc, &mut kernel, &calls, &wanted)?);
