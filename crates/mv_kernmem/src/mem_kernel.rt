@@ -1,5 +1,5 @@
 //! A kernel in memory, which plays a script and tells what it did.
-ghost use Rattle.std.specs.Prelude.{◌≡◌, ◌≤◌, ◌+◌, ◌-◌, ◌^◌, ◌↔◌, [], ◌∷◌, ◌++◌, length, Some, IsTrue, IsErr, IfOk, OnOk, OnErr};
+ghost use Rattle.std.specs.Prelude.{◌≡◌, ◌≤◌, ◌-◌, ◌^◌, ◌↔◌, [], ◌∷◌, length, Some, IsTrue, IsErr, IfOk, OnOk, OnErr};
 ghost use Rattle.mv_calls.specs.Places.{Holds, places_of};
 ghost use Rattle.mv_calls.specs.Suits.{suits_of};
 ghost use Rattle.mv_outside.specs.Causes.{Rose};

@@ -1,13 +1,12 @@
 //! What a guest's calls meet: the connections of a script, its clock and its random bytes.
-ghost use Rattle.std.specs.Prelude.{◌≡◌, ℕ, ◌≤◌, ◌<◌, ◌+◌, ◌-◌, ◌%◌, ◌^◌, ◌&&◌, ◌==◌, [], length, map, take, unwrap_or, slice_get, IfOk, vec_len, vec_capacity, option_to_list, ◌++◌, if◌then◌else◌};
+ghost use Rattle.std.specs.Prelude.{◌≡◌, ◌≤◌, ◌<◌, ◌+◌, ◌-◌, ◌%◌, ◌^◌, [], length, map, IfOk, vec_len, vec_capacity, option_to_list, ◌++◌};
 ghost use Rattle.std.specs.Option.{option_copied};
 ghost use Rattle.mv_calls.specs.Places.{Holds, places_of};
 ghost use Rattle.mv_kernmem.specs.States.{fresh, connection_at, is_connection, is_known, is_output, waits};
-ghost use Rattle.mv_kernmem.specs.Replies.{reply_of, accept_of, close_of, read_of, first_bytes, time_of, period_of, random_at, random_bytes};
-ghost use Rattle.mv_kernmem.specs.Polls.{happened, has_more, can_read, can_write, event_at, event_of, told_event, events_of};
+ghost use Rattle.mv_kernmem.specs.Replies.{reply_of, accept_of, close_of, read_of, time_of, period_of, random_at};
+ghost use Rattle.mv_kernmem.specs.Polls.{happened, can_read, can_write, event_at, told_event};
 ghost use Rattle.mv_kernmem.specs.Changes.{state_after, with_connection, after_accept, after_read, after_close};
 ghost use Rattle.mv_calls.specs.declared.calls.Call.TheVariants as asked;
-ghost use Rattle.mv_calls.specs.declared.subs.Sub.TheVariants as wanted;
 
 use crate::script::{Conns, Numbers};
 use crate::socket::Socket;
