@@ -1,0 +1,30 @@
+-- What a transformer can ask of the old guest's machine, which is its module and its configuration, and one stop of its run.
+use Rattle.std.specs.Prelude.{◌≡◌, ℕ, [], Option, Some, None}
+use Rattle.mv_syntax.specs.declared.types.FuncType.{FuncType}
+use Rattle.mv_syntax.specs.Sections.{Parts}
+use Rattle.mv_validator.specs.Typing.{func_type}
+use Rattle.mv_execution.specs.Config.{Config}
+use Rattle.mv_execution.specs.Fits.{module_context}
+use Rattle.mv_machine.specs.Calls.{HasFunction}
+use Rattle.mv_machine.specs.Executions.{Execution}
+use Rattle.mv_version.specs.declared.event.Event.TheVariants.{Point}
+use Rattle.mv_guest.specs.Standing.{Standing, standing}
+use Rattle.mv_transform.specs.Transforms.{Met, Finished, GoesOn}
+
+abbrev pub shown : Execution → Standing
+shown m = standing m.parts [] (m.config, Point)
+
+-- it has ended with a code, or goes on
+abbrev pub met_by : Option ℕ → Config → Met
+met_by None c = GoesOn c
+met_by (Some code) c = Finished c code
+
+-- where it has ended no call is left
+abbrev pub IsIdleAt : Option ℕ → Config → Type 0
+IsIdleAt None c = Unit {0}
+IsIdleAt (Some code) c = c.frames ≡ []
+
+-- a function that a machine can enter where no call is left
+pub record IsEntry (p : Parts) (x : ℕ) : Type 0 where
+  pub there : HasFunction p x
+  pub no_parameter : (t : FuncType) → func_type (module_context p) x ≡ Some t → t.params ≡ []
