@@ -1,9 +1,12 @@
 -- What a transformer can ask of the old guest's machine, which is its module and its configuration, and one stop of its run.
-use Rattle.std.specs.Prelude.{◌≡◌, ℕ, [], Option, Some, None}
+use Rattle.std.specs.Prelude.{◌≡◌, ℕ, [], Option, Some, None, Result, Ok, Err}
 use Rattle.mv_syntax.specs.declared.types.FuncType.{FuncType}
+use Rattle.mv_syntax.specs.declared.fault.BornFault.{BornFault}
 use Rattle.mv_syntax.specs.Sections.{Parts}
 use Rattle.mv_validator.specs.Typing.{func_type}
 use Rattle.mv_execution.specs.Config.{Config}
+use Rattle.mv_execution.specs.Instance.{program_of}
+use Rattle.mv_execution.specs.Run.{entered, with_new_gap}
 use Rattle.mv_execution.specs.Fits.{module_context}
 use Rattle.mv_machine.specs.Calls.{HasFunction}
 use Rattle.mv_machine.specs.Executions.{Execution}
@@ -28,3 +31,8 @@ IsIdleAt (Some code) c = c.frames ≡ []
 pub record IsEntry (p : Parts) (x : ℕ) : Type 0 where
   pub there : HasFunction p x
   pub no_parameter : (t : FuncType) → func_type (module_context p) x ≡ Some t → t.params ≡ []
+
+-- in the function with which the new version goes on, with a new gap
+abbrev pub resumed_config : Parts → ℕ → Result Config BornFault → Result Config BornFault
+resumed_config p y (Err fault) = Err fault
+resumed_config p y (Ok c) = Ok (entered (program_of p) y (with_new_gap c))

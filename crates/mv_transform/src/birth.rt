@@ -6,16 +6,17 @@ ghost use Rattle.mv_validator.specs.Typing.{func_type};
 ghost use Rattle.mv_execution.specs.Fits.{module_context};
 ghost use Rattle.mv_machine.specs.Calls.{HasFunction};
 ghost use Rattle.mv_start.specs.Instances.{filled};
+ghost use Rattle.mv_wasi.specs.Machines.{clean};
 ghost use Rattle.mv_wasi.specs.Known.{AreKnown};
-ghost use Rattle.mv_guest.specs.Standing.{Standing, unready};
+ghost use Rattle.mv_guest.specs.Standing.{Standing, stands_from, unready};
 ghost use Rattle.mv_guest.specs.Running.{stands_of};
-ghost use Rattle.mv_transform.specs.Shown.{IsEntry};
+ghost use Rattle.mv_transform.specs.Shown.{IsEntry, shown, resumed_config};
 ghost use Rattle.mv_transform.specs.Transforms.{transformed};
 ghost use Rattle.mv_transform.specs.Births.{born_of, born, resumed, transformed_from};
 
 use crate::beginning::read_valid;
 use crate::transformer::transform;
-use mv_calls::Or;
+use mv_calls::{Or, OutOfMemory};
 use mv_guest::Runner;
 use mv_machine::Machine;
 use mv_start::{entry, fault_of_imports, fill};
@@ -83,21 +84,59 @@ fn enter_transformer(alloc: Global, bytes: &[u8]) -> Result<Newborn, Or<BornFaul
     Ok(Newborn { machine, resume })
 }
 
-/// A guest that is born from an old one, which is used up, or the first fault. The transformer is answered from where the old
-/// guest stands at its next event.
+/// Brings the old guest to its next event, from which it is read.
+fn reach_event(alloc: Global, old: &mut Runner) -> Result<(), OutOfMemory>
+    ensures there { OnOk result (clean old.new.machine.config ≡ (stands_of old.old).config) }
+    ensures parts { OnOk result (old.new.machine.parts ≡ (stands_of old.old).parts) }
+    ensures args { OnOk result (old.new.args ≡ (stands_of old.old).args) }
+{
+    old.go(alloc)?;
+    Ok(())
+}
+
+/// Runs the transformer that the machine has entered to its end, and enters the function with which the new version goes on, in
+/// a new gap.
+fn run_transformer(
+    alloc: Global,
+    machine: &mut Machine,
+    resume: u32,
+    old: &Machine,
+) -> Result<(), Or<BornFault>>
+    requires known { AreKnown machine.old.parts }
+    requires resume { IsEntry machine.old.parts resume }
+    ensures ok { OnOk result (resumed_config machine.old.parts resume (transformed machine.old.parts (shown old.now) machine.old.config) ≡ done_as machine.new.config) }
+    ensures fault { IfFault result (λ fault. resumed_config machine.old.parts resume (transformed machine.old.parts (shown old.now) machine.old.config) ≡ faulty_as fault) }
+    ensures parts { machine.new.parts ≡ machine.old.parts }
+{
+    transform(alloc, machine, old)?;
+    machine.new_gap();
+    machine.enter(alloc, resume)?;
+    Ok(())
+}
+
+/// The new version's machine, in the function with which it goes on, or the first fault. The transformer is answered from where
+/// the old guest stands at its next event.
+fn new_machine(alloc: Global, old: &mut Runner, bytes: &[u8]) -> Result<Machine, Or<BornFault>>
+    ensures born { IfOk result (λ machine. born (unready (stands_of old.old)) bytes.now ≡ done_as (stands_from machine.parts old.new.args machine.config)) }
+    ensures refused { IfFault result (λ fault. born (unready (stands_of old.old)) bytes.now ≡ faulty_as fault) }
+    ensures known { IfOk result (λ machine. AreKnown machine.parts) }
+{
+    let Newborn {
+        mut machine,
+        resume,
+    } = enter_transformer(alloc, bytes)?;
+    reach_event(alloc, old)?;
+    run_transformer(alloc, &mut machine, resume, old.machine())?;
+    Ok(machine)
+}
+
+/// A guest that is born from an old one, which is used up, with its arguments, or the first fault.
 pub fn born_guest(alloc: Global, old: Runner, bytes: &[u8]) -> Result<Runner, Or<BornFault>>
     ensures born { IfOk result (λ runner. born (unready (stands_of old)) bytes.now ≡ done_as (unready (stands_of runner))) }
     ensures refused { IfFault result (λ fault. born (unready (stands_of old)) bytes.now ≡ faulty_as fault) }
 {
     let mut old = old;
-    let Newborn {
-        mut machine,
-        resume,
-    } = enter_transformer(alloc, bytes)?;
-    old.go(alloc)?;
-    transform(alloc, &mut machine, old.machine())?;
-    machine.new_gap();
-    machine.enter(alloc, resume)?;
+    let machine = new_machine(alloc, &mut old, bytes)?;
     let args = old.args().copy(alloc)?;
     Ok(Runner::resume(alloc, machine, args))
 }

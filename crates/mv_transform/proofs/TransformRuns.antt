@@ -1,7 +1,11 @@
 -- A transformer's run: how many stops are allowed doesn't matter, since each but the first has counted an instruction, and of
 -- the old guest only its module and its configuration do.
-use Rattle.std.proofs.Common.{true, false, cond, Bool, ◌≡◌, ℕ, zero, suc, ◌+◌, ◌-◌, ◌<◌, ◌≤◌, List, [], ◌∷◌, Option, Some, None, refl, sym, ap, ◌∙◌, subst, arith}
-use Rattle.std.specs.Prelude.{Result, Ok, Err, ◌&&◌, ◌==◌, slice_range}
+use Rattle.std.proofs.Common.{true, false, cond, Bool, ◌≡◌, ℕ, zero, suc, ◌+◌, ◌-◌, ◌≤◌, List, [], ◌∷◌, Option, Some, None, refl, sym, ap, ◌∙◌, subst, arith}
+use Rattle.std.specs.Prelude.{Result, Ok, Err, ◌&&◌, slice_range}
+use Rattle.std.proofs.lemmas.Bool.{ne_eqb}
+use Rattle.mv_calls.specs.Or.{IfFault}
+use Rattle.mv_calls.specs.declared.fault.Or.{Or}
+use Rattle.mv_calls.specs.declared.fault.Or.TheVariants.{Fault}
 use Rattle.mv_calls.specs.declared.trap.Trap.{Trap}
 use Rattle.mv_syntax.specs.declared.fault.BornFault.{BornFault}
 use Rattle.mv_syntax.specs.declared.fault.BornFault.TheVariants.{Transform, Code}
@@ -126,6 +130,25 @@ module _ (p : Parts) (old : Standing) where
 
   pub run-fails : (c : Config) (t : Trap) → met p old (run (program_of p) ample c) ≡ Fails t → transformed p old c ≡ Err (Transform t)
   run-fails c t e = first-stop c (Fails t) e
+
+-- ---- in a loop
+
+module _ (p q : Parts) (old : Standing) (same : q ≡ p) (first c : Config) (so_far : transformed p old first ≡ transformed p old c) where
+  here : (met_with : Met) → met q old (run (program_of q) ample c) ≡ met_with → met p old (run (program_of p) ample c) ≡ met_with
+  here met_with e = subst (λ z. met z old (run (program_of z) ample c) ≡ met_with) same e
+
+  pub loop-goes : (d : Config) (o : Option ℕ) → met q old (run (program_of q) ample c) ≡ met_by o d → o ≡ None → transformed p old first ≡ transformed p old d
+  loop-goes d o e none = so_far ∙ run-goes p old c d o (here (met_by o d) e) none
+
+  pub loop-finishes : (d : Config) (o : Option ℕ) (code : ℕ) → met q old (run (program_of q) ample c) ≡ met_by o d → o ≡ Some code → transformed p old first ≡ finished d code
+  loop-finishes d o code e some = so_far ∙ run-finishes p old c d o code (here (met_by o d) e) some
+
+  pub loop-fails : (o : Or Trap) (t : Trap) → IfFault {T = Option ℕ} {E = Trap} (Err o) (λ f. met q old (run (program_of q) ample c) ≡ Fails f) → o ≡ Fault t → transformed p old first ≡ Err (Transform t)
+  loop-fails o t e f = so_far ∙ run-fails p old c t (here (Fails t) (subst (λ z. IfFault {T = Option ℕ} {E = Trap} (Err z) (λ g. met q old (run (program_of q) ample c) ≡ Fails g)) f e))
+
+-- a code other than 0
+pub other-code : (d : Config) (code : ℕ) → (code ≡ 0 → ⊥) → finished d code ≡ Err (Code code)
+other-code d code h = ap (λ b. cond b (Ok d) (Err (Code code))) (ne_eqb code 0 h)
 
 -- ---- what it depends on
 
