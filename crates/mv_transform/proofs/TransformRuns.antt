@@ -125,6 +125,10 @@ module _ (p : Parts) (old : Standing) where
   pub run-fewer : (c d : Config) (o : Option ℕ) → met p old (run (program_of p) ample c) ≡ met_by o d → o ≡ None → needs d + 1 ≤ needs c
   run-fewer c d o e none = fewer p old c d (e ∙ ap (λ z. met_by z d) none)
 
+  -- no call waits behind an answer
+  pub run-answered : (c d : Config) (o : Option ℕ) → met p old (run (program_of p) ample c) ≡ met_by o d → o ≡ None → d.waiting ≡ None
+  run-answered c d o e none = (met-goes p old (run (program_of p) ample c).0 (run (program_of p) ample c).1 d (e ∙ ap (λ z. met_by z d) none)).2
+
   pub run-finishes : (c d : Config) (o : Option ℕ) (code : ℕ) → met p old (run (program_of p) ample c) ≡ met_by o d → o ≡ Some code → transformed p old c ≡ finished d code
   run-finishes c d o code e some = first-stop c (Finished d code) (e ∙ ap (λ z. met_by z d) some)
 

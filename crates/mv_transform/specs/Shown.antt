@@ -1,5 +1,6 @@
 -- What a transformer can ask of the old guest's machine, which is its module and its configuration, and one stop of its run.
-use Rattle.std.specs.Prelude.{◌≡◌, ℕ, [], Option, Some, None, Result, Ok, Err}
+use Rattle.std.specs.Prelude.{◌≡◌, ℕ, [], Option, Some, None, Result, Ok, Err, slice_get}
+use Rattle.mv_syntax.specs.declared.module.Import.{Import}
 use Rattle.mv_syntax.specs.declared.types.FuncType.{FuncType}
 use Rattle.mv_syntax.specs.declared.fault.BornFault.{BornFault}
 use Rattle.mv_syntax.specs.Sections.{Parts}
@@ -36,3 +37,8 @@ pub record IsEntry (p : Parts) (x : ℕ) : Type 0 where
 abbrev pub resumed_config : Parts → ℕ → Result Config BornFault → Result Config BornFault
 resumed_config p y (Err fault) = Err fault
 resumed_config p y (Ok c) = Ok (entered (program_of p) y (with_new_gap c))
+
+-- a call that waits for its answer is an import's
+abbrev pub WaitsForImport : Parts → Option ℕ → Type 0
+WaitsForImport p None = Unit {0}
+WaitsForImport p (Some x) = (i : Import) × (slice_get p.imports x ≡ Some i)

@@ -10,7 +10,7 @@ ghost use Rattle.mv_wasi.specs.Machines.{clean};
 ghost use Rattle.mv_wasi.specs.Known.{AreKnown};
 ghost use Rattle.mv_guest.specs.Standing.{Standing, stands_from, unready};
 ghost use Rattle.mv_guest.specs.Running.{stands_of};
-ghost use Rattle.mv_transform.specs.Shown.{IsEntry, shown, resumed_config};
+ghost use Rattle.mv_transform.specs.Shown.{IsEntry, WaitsForImport, shown, resumed_config};
 ghost use Rattle.mv_transform.specs.Transforms.{transformed};
 ghost use Rattle.mv_transform.specs.Births.{born_of, born, resumed, transformed_from};
 
@@ -66,6 +66,7 @@ fn enter_transformer(alloc: Global, bytes: &[u8]) -> Result<Newborn, Or<BornFaul
     ensures entered { IfOk result (λ new. (old : Standing) → born old bytes.now ≡ resumed old new.machine.parts new.resume (transformed new.machine.parts old new.machine.config)) }
     ensures refused { IfFault result (λ fault. (old : Standing) → born old bytes.now ≡ faulty_as fault) }
     ensures known { IfOk result (λ new. AreKnown new.machine.parts) }
+    ensures waits { IfOk result (λ new. WaitsForImport new.machine.parts new.machine.config.waiting) }
     ensures resume { IfOk result (λ new. IsEntry new.machine.parts new.resume) }
 {
     let valid = read_valid(alloc, bytes)?;
@@ -103,6 +104,7 @@ fn run_transformer(
     old: &Machine,
 ) -> Result<(), Or<BornFault>>
     requires known { AreKnown machine.old.parts }
+    requires waits { WaitsForImport machine.old.parts machine.old.config.waiting }
     requires resume { IsEntry machine.old.parts resume }
     ensures ok { OnOk result (resumed_config machine.old.parts resume (transformed machine.old.parts (shown old.now) machine.old.config) ≡ done_as machine.new.config) }
     ensures fault { IfFault result (λ fault. resumed_config machine.old.parts resume (transformed machine.old.parts (shown old.now) machine.old.config) ≡ faulty_as fault) }

@@ -11,7 +11,7 @@ ghost use Rattle.mv_imports.specs.Functions.{params_of};
 ghost use Rattle.mv_wasi.specs.Machines.{argument_at, function_at, made_at, with_bytes};
 ghost use Rattle.mv_wasi.specs.Known.{AreKnown, IsWaitingFor};
 ghost use Rattle.mv_wasi.specs.Ranges.{is_within, number_at};
-ghost use Rattle.mv_transform.specs.Shown.{shown};
+ghost use Rattle.mv_transform.specs.Shown.{shown, WaitsForImport};
 ghost use Rattle.mv_transform.specs.Transforms.{GoesOn, Fails, exported_globals, old_global as global_of, global_met, read_met, met_made};
 
 use mv_calls::{Or, OutOfMemory, Trap};
@@ -183,12 +183,13 @@ pub fn answer(
 ) -> Result<(), Or<Trap>>
     requires known { AreKnown machine.old.parts }
     requires waits { machine.old.config.waiting ≡ Some import }
+    requires import { WaitsForImport machine.old.parts machine.old.config.waiting }
     ensures ok { OnOk result (met_made (program_of machine.old.parts) (shown old.now) machine.old.config (made_at machine.old.parts [] import machine.old.config).0 ≡ GoesOn machine.new.config) }
     ensures fault { IfFault result (λ trap. met_made (program_of machine.old.parts) (shown old.now) machine.old.config (made_at machine.old.parts [] import machine.old.config).0 ≡ Fails trap) }
     ensures parts { machine.new.parts ≡ machine.old.parts }
 {
     let Some(function) = function_of(machine, import) else {
-        return Err(Or::OutOfMemory);
+        unreachable!()
     };
     match function {
         HostFunction::OldPages => {

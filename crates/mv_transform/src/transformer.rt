@@ -1,12 +1,13 @@
 //! A transformer's run.
-ghost use Rattle.std.specs.Prelude.{◌≡◌, [], OnOk, IfOk, Ok as done_as, Err as faulty_as};
+ghost use Rattle.std.specs.Prelude.{◌≡◌, ◌≢◌, [], OnOk, OnErr, IfOk, IfErr, Ok as done_as, Err as faulty_as};
 ghost use Rattle.mv_calls.specs.Or.{IfFault};
+ghost use Rattle.mv_syntax.specs.declared.fault.BornFault.TheVariants.{Code};
 ghost use Rattle.mv_execution.specs.Instance.{program_of};
 ghost use Rattle.mv_execution.specs.Run.{run as run_of};
 ghost use Rattle.mv_machine.specs.States.{values_of};
 ghost use Rattle.mv_start.specs.Instances.{ample};
 ghost use Rattle.mv_wasi.specs.Known.{AreKnown};
-ghost use Rattle.mv_transform.specs.Shown.{shown, met_by, IsIdleAt};
+ghost use Rattle.mv_transform.specs.Shown.{shown, met_by, IsIdleAt, WaitsForImport};
 ghost use Rattle.mv_transform.specs.Transforms.{Fails, met, transformed, code_of};
 
 use crate::questions::answer;
@@ -31,6 +32,7 @@ fn code_in(value: Option<u64>) -> Result<u32, OutOfMemory>
 /// Runs the transformer up to its next stop, and answers its question there. Where it has ended its code comes.
 fn advance(alloc: Global, machine: &mut Machine, old: &Machine) -> Result<Option<u32>, Or<Trap>>
     requires known { AreKnown machine.old.parts }
+    requires waits { WaitsForImport machine.old.parts machine.old.config.waiting }
     ensures met { IfOk result (λ code. met machine.old.parts (shown old.now) (run_of (program_of machine.old.parts) ample machine.old.config) ≡ met_by code machine.new.config) }
     ensures fault { IfFault result (λ trap. met machine.old.parts (shown old.now) (run_of (program_of machine.old.parts) ample machine.old.config) ≡ Fails trap) }
     ensures parts { machine.new.parts ≡ machine.old.parts }
@@ -49,9 +51,23 @@ fn advance(alloc: Global, machine: &mut Machine, old: &Machine) -> Result<Option
     }
 }
 
+/// What the code of a transformer that has ended comes to: 0 means done.
+fn judge(code: u32) -> Result<(), BornFault>
+    ensures done { OnOk result (code ≡ 0) }
+    ensures fault { IfErr result (λ fault. fault ≡ Code code) }
+    ensures other { OnErr result (code ≢ 0) }
+{
+    if code == 0 {
+        Ok(())
+    } else {
+        Err(BornFault::Code(code))
+    }
+}
+
 /// Runs the transformer that the machine has entered to its end. The fault is its trap, or its code where that isn't 0.
 pub fn transform(alloc: Global, machine: &mut Machine, old: &Machine) -> Result<(), Or<BornFault>>
     requires known { AreKnown machine.old.parts }
+    requires waits { WaitsForImport machine.old.parts machine.old.config.waiting }
     ensures ok { OnOk result (transformed machine.old.parts (shown old.now) machine.old.config ≡ done_as machine.new.config) }
     ensures fault { IfFault result (λ fault. transformed machine.old.parts (shown old.now) machine.old.config ≡ faulty_as fault) }
     ensures parts { machine.new.parts ≡ machine.old.parts }
@@ -60,8 +76,12 @@ pub fn transform(alloc: Global, machine: &mut Machine, old: &Machine) -> Result<
     loop {
         match advance(alloc, machine, old) {
             Ok(None) => {}
-            Ok(Some(0)) => return Ok(()),
-            Ok(Some(code)) => return Err(Or::Fault(BornFault::Code(code))),
+            Ok(Some(code)) => {
+                return match judge(code) {
+                    Ok(()) => Ok(()),
+                    Err(fault) => Err(Or::Fault(fault)),
+                };
+            }
             Err(Or::Fault(trap)) => return Err(Or::Fault(BornFault::Transform(trap))),
             Err(Or::OutOfMemory) => return Err(Or::OutOfMemory),
         }
