@@ -1,4 +1,4 @@
--- What a transformer can ask of the old guest's machine, which is its module and its configuration, and one stop of its run.
+-- Machines in a birth, for the contracts of the functions that make it: what the old one shows, and what the new one comes to.
 use Rattle.std.specs.Prelude.{◌≡◌, ℕ, [], Option, Some, None, Result, Ok, Err, slice_get}
 use Rattle.mv_syntax.specs.declared.module.Import.{Import}
 use Rattle.mv_syntax.specs.declared.types.FuncType.{FuncType}
@@ -15,6 +15,7 @@ use Rattle.mv_version.specs.declared.event.Event.TheVariants.{Point}
 use Rattle.mv_guest.specs.Standing.{Standing, standing}
 use Rattle.mv_transform.specs.Transforms.{Met, Finished, GoesOn}
 
+-- the old guest as far as a transformer can ask: its module and its configuration
 abbrev pub shown : Execution → Standing
 shown m = standing m.parts [] (m.config, Point)
 

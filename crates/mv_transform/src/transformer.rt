@@ -19,7 +19,8 @@ use std::alloc::Global;
 /// Fuel for one instruction more than a gap may have.
 const AMPLE: u32 = 50_000_001;
 
-/// The code that is a transformer's result. It is of type i32, so it always fits.
+/// The code that is a transformer's result. It is of type i32, so it always fits; the contract of a run doesn't say so, and want
+/// of memory, the one free answer, stands where it wouldn't.
 fn code_in(value: Option<u64>) -> Result<u32, OutOfMemory>
     ensures { IfOk result (λ code. code ≡ code_of (values_of value)) }
 {
