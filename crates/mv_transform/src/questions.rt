@@ -112,7 +112,8 @@ fn copy_bytes(
     let memory = machine.memory_mut();
     match memory.fill_from(alloc, u64::from(dst), &bytes) {
         Ok(()) => Ok(()),
-        Err(_) => Err(OutOfMemory),
+        Err(Or::OutOfMemory) => Err(OutOfMemory),
+        Err(Or::Fault(_)) => unreachable!(),
     }
 }
 
