@@ -1,7 +1,6 @@
 -- A guest's behaviour gives states that have nothing prepared.
-use Rattle.std.proofs.Common.{true, false, ◌≡◌, ℕ, zero, suc, ◌+◌, List, [], ◌∷◌, Option, Some, None, refl, sym, ap, ◌∙◌, subst}
+use Rattle.std.proofs.Common.{◌≡◌, ℕ, zero, suc, ◌+◌, List, Option, Some, None, refl, ap, ◌∙◌, subst}
 use Rattle.std.specs.Prelude.{Result, Ok, Err, codes}
-use Rattle.mv_calls.specs.declared.calls.Reply.{Reply}
 use Rattle.mv_syntax.specs.declared.fault.BornFault.{BornFault}
 use Rattle.mv_syntax.specs.declared.fault.BornFault.TheVariants.{Read, Valid, Start, NoTransform, NoResume, Transform}
 use Rattle.mv_syntax.specs.declared.fault.StartFault.{StartFault}
@@ -13,11 +12,11 @@ use Rattle.mv_execution.specs.Instance.{program_of}
 use Rattle.mv_execution.specs.Run.{run, entered}
 use Rattle.mv_start.specs.Instances.{ample, imports_fault, entry_of, nothing_type, number_type, filled, started_instance}
 use Rattle.mv_version.specs.Behaviour.{IsSettled, PointsEnd}
-use Rattle.mv_guest.specs.Standing.{Standing, stands_from, unready, after, passed, left}
+use Rattle.mv_guest.specs.Standing.{Standing, stands_from, unready}
 use Rattle.mv_guest.proofs.Points.{points-end}
 use Rattle.mv_transform.specs.Found.{valid_fault}
 use Rattle.mv_transform.specs.Transforms.{Met, Finished, Fails, GoesOn, met, finished, transformed_within, transformed}
-use Rattle.mv_transform.specs.Births.{unless_faulty, with_entry, with_module, started_from, started, resumed, transformed_from, born_of, born, behaviour}
+use Rattle.mv_transform.specs.Births.{unless_faulty, with_entry, with_module, started_from, resumed, transformed_from, born_of, behaviour}
 
 -- what begins has nothing prepared
 abbrev Settles : Result Standing BornFault → Type 0

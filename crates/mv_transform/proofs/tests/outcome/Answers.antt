@@ -1,4 +1,4 @@
-use Rattle.std.proofs.Common.{◌≡◌, ◌∙◌, ap, [], ◌∷◌}
+use Rattle.std.proofs.Common.{◌∙◌, ap, [], ◌∷◌}
 use Rattle.mv_calls.specs.declared.calls.Call.TheVariants.{Write as write_call}
 use Rattle.mv_guest.specs.Standing.{Standing}
 use Rattle.mv_transform.proofs.tests.outcome.Goals as goal
