@@ -1,30 +1,17 @@
 //! `mv`: a host for live updates of WebAssembly servers.
 #![tactic(auto)]
 
-mod check;
-mod command;
 mod disk_files;
-mod ending;
-mod entries;
-mod fault_lines;
-mod lines;
-mod log;
-mod mem_kernel;
-mod module;
 mod no_console;
-mod program;
-mod rules;
-mod run;
 mod streams;
 #[cfg(test)]
 mod tests;
-mod words;
 mod writer_sink;
 
 use disk_files::DiskFiles;
+use mv_commands::program;
 use mv_outside::FreeGate;
 use no_console::NoConsole;
-use program::program;
 use std::alloc::Global;
 use std::process::ExitCode;
 use std::rt::Env;

@@ -24,7 +24,9 @@ pub struct Streams<O: Write + Drop, E: Write + Drop> {
 
 impl<O: Write + Drop, E: Write + Drop> Streams<O, E> {
     /// A kernel over these two.
-    pub fn new(out: O, err: E) -> Streams<O, E> {
+    pub fn new(out: O, err: E) -> Streams<O, E>
+        ensures { result ≡ record { out = out; err = err } }
+    {
         Streams { out, err }
     }
 }

@@ -1,15 +1,12 @@
-//! The command `run` and the program over objects in memory.
+//! The program over objects in memory, and its own objects.
 
-use crate::check::check_command;
-use crate::command::run_command;
 use crate::disk_files::DiskFiles;
-use crate::log::{Entry, How, Mark};
-use crate::mem_kernel::MemKernel;
-use crate::program::program;
-use crate::rules::rules_command;
 use crate::streams::Streams;
 use crate::writer_sink::WriterSink;
 use mv_calls::{Bytes, Call, Item, OutOfMemory, Reply, Room};
+use mv_commands::{carry_out, program};
+use mv_history::{Entry, Mark};
+use mv_kernmem::{Conns, MemKernel, Numbers, Script};
 use mv_outside::{
     FileAt, Files, Found, FreeGate, Kernel, MemConsole, MemFiles, Sink, VecSink, paths_differ,
 };
@@ -35,31 +32,53 @@ const IOVS: usize = 127;
 
 const CODE: usize = 136;
 
-/// The numbers of the calls that are to fail.
+/// A version: its `_start` stands at a point, writes `hi`, stands at a point, and ends; its `live_transform` answers 0; its
+/// `live_resume` writes `hi`, stands at a point, and ends.
+const VERSION: &[u8; 233] = b"\0asm\x01\0\0\0\
+\x01\x14\x04\x60\x04\x7f\x7f\x7f\x7f\x01\x7f\x60\x01\x7f\x00\x60\x00\x00\x60\x00\x01\x7f\
+\x02\x53\x03\x16wasi_snapshot_preview1\x08fd_write\x00\x00\x16wasi_snapshot_preview1\x09proc_exit\x00\x01\
+\x04live\x05point\x00\x03\
+\x03\x04\x03\x02\x03\x02\x05\x03\x01\x00\x01\
+\x07\x29\x03\x06_start\x00\x03\x0elive_transform\x00\x04\x0blive_resume\x00\x05\
+\x0a\x2b\x03\
+\x13\x00\x10\x02\x1a\x41\x01\x41\x00\x41\x01\x41\x0c\x10\x00\x1a\x10\x02\x1a\x0b\
+\x04\x00\x41\x00\x0b\
+\x10\x00\x41\x01\x41\x00\x41\x01\x41\x0c\x10\x00\x1a\x10\x02\x1a\x0b\
+\x0b\x11\x01\x00\x41\x00\x0b\x0b\x08\x00\x00\x00\x03\x00\x00\x00hi\x0a";
+
+/// What was asked of the program, beside its files.
 #[derive(Clone, Copy)]
-struct Failing {
+struct Asked<'a> {
+    words: &'a [&'a str],
+    /// What the operator says at the looks of these numbers, from 0.
+    orders: &'a [(usize, &'a str)],
+    /// The numbers of the calls that are to fail.
     perform: Option<u64>,
     read: Option<u64>,
     print: Option<u64>,
 }
 
-const NONE_FAIL: Failing = Failing {
-    perform: None,
-    read: None,
-    print: None,
-};
+/// These words, where nothing fails and nobody orders.
+fn words<'a>(words: &'a [&'a str]) -> Asked<'a> {
+    Asked {
+        words,
+        orders: &[],
+        perform: None,
+        read: None,
+        print: None,
+    }
+}
 
 /// What a run showed.
 #[derive(Drop)]
 struct Shown {
     status: u8,
     line: Vec<u8>,
+    /// A letter for each entry: C a call, P a point, O an order, F a fork, D a discard, E the end, and x any other.
+    log: Vec<u8>,
     /// How many calls the kernel did, and whether the first is the write of `hi`, taken whole.
     done: usize,
     says_hi: bool,
-    /// How many entries the log has, and how it ended.
-    entries: usize,
-    how: Option<How>,
 }
 
 fn list(alloc: Global, number: Option<u64>) -> Result<Vec<u64>, AllocError> {
@@ -81,28 +100,67 @@ fn texts(alloc: Global, words: &[&str]) -> Result<Vec<String>, AllocError> {
 fn files(
     rt: &impl Abort,
     alloc: Global,
-    module: &[u8],
+    named: &[(&str, &[u8])],
     read: Option<u64>,
 ) -> Result<MemFiles, Fail> {
     let mut all = Vec::new(alloc);
-    all.push(FileAt {
-        path: Bytes::from_slice(alloc, b"hello")?,
-        bytes: Bytes::from_slice(alloc, module)?,
-    })?;
+    for (path, bytes) in named {
+        all.push(FileAt {
+            path: Bytes::from_slice(alloc, path.as_bytes())?,
+            bytes: Bytes::from_slice(alloc, bytes)?,
+        })?;
+    }
     assert!(rt; paths_differ(all.as_slice()));
     Ok(MemFiles::new(all, list(alloc, read)?, Vec::new(alloc)))
 }
 
-fn console(alloc: Global) -> MemConsole {
-    MemConsole::new(alloc, Vec::new(alloc), Vec::new(alloc), Vec::new(alloc))
+/// The lines of these orders, each at its look, with idle turns before it.
+fn console(alloc: Global, orders: &[(usize, &str)]) -> Result<MemConsole, Fail> {
+    let mut lines = Vec::new(alloc);
+    for (look, line) in orders {
+        while lines.len() < *look {
+            lines.push(None)?;
+        }
+        lines.push(Some(Bytes::from_slice(alloc, line.as_bytes())?))?;
+    }
+    Ok(MemConsole::new(
+        alloc,
+        lines,
+        Vec::new(alloc),
+        Vec::new(alloc),
+    ))
 }
 
-/// How the log ended.
-fn how(entries: &[Entry]) -> Option<How> {
-    match entries.last() {
-        Some(Entry::Mark(Mark::End { how })) => Some(*how),
-        _ => None,
+fn kernel(alloc: Global, perform: Option<u64>) -> Result<MemKernel, Fail> {
+    let script = Script {
+        conns: Conns::from_vec(Vec::new(alloc)),
+        clock: Numbers::from_vec(Vec::new(alloc)),
+        random: Bytes::from_vec(Vec::new(alloc)),
+        fail: Numbers::from_vec(list(alloc, perform)?),
+    };
+    Ok(MemKernel::new(alloc, script)?)
+}
+
+/// The letter of an entry.
+fn letter(entry: &Entry) -> u8 {
+    match entry {
+        Entry::Call { .. } => b'C',
+        Entry::Point => b'P',
+        Entry::Order { .. } => b'O',
+        Entry::Mark(Mark::Fork { .. }) => b'F',
+        Entry::Mark(Mark::Discard { .. }) => b'D',
+        Entry::Mark(Mark::End { .. }) => b'E',
+        Entry::Mark(_) => b'x',
     }
+}
+
+/// The letters of all entries.
+fn letters(alloc: Global, entries: &[Entry]) -> Result<Vec<u8>, AllocError> {
+    let mut all = Vec::new(alloc);
+    for entry in entries {
+        all.push(letter(entry))?;
+    }
+    Ok(all)
 }
 
 /// Whether the first of the calls is the write of `hi`, taken whole.
@@ -120,39 +178,26 @@ fn is_hi(item: &Item) -> bool {
     }
 }
 
-/// Runs the words over these objects.
-fn ran(
-    alloc: Global,
-    words: &[String],
-    kernel: MemKernel,
-    files: MemFiles,
-    mut sink: VecSink,
-) -> Result<Shown, Fail> {
-    let came = run_command(alloc, words, kernel, console(alloc), files, &mut sink);
-    let entries = came.log.entries.slice();
-    Ok(Shown {
-        status: came.status,
-        line: Vec::from_slice(alloc, sink.bytes())?,
-        done: came.kernel.done().len(),
-        says_hi: says_hi(came.kernel.done()),
-        entries: entries.len(),
-        how: how(entries),
-    })
-}
-
-/// Runs the words over one file `hello` with these bytes.
+/// Carries out the words over these files.
 fn row_of(
     rt: &impl Abort,
     alloc: Global,
-    words: &[&str],
-    module: &[u8],
-    fail: Failing,
+    asked: Asked<'_>,
+    named: &[(&str, &[u8])],
 ) -> Result<Shown, Fail> {
-    let words = texts(alloc, words)?;
-    let kernel = MemKernel::new(alloc, list(alloc, fail.perform)?);
-    let files = files(rt, alloc, module, fail.read)?;
-    let sink = VecSink::new(alloc, list(alloc, fail.print)?);
-    ran(alloc, words.as_slice(), kernel, files, sink)
+    let said = texts(alloc, asked.words)?;
+    let kernel = kernel(alloc, asked.perform)?;
+    let console = console(alloc, asked.orders)?;
+    let files = files(rt, alloc, named, asked.read)?;
+    let mut sink = VecSink::new(alloc, list(alloc, asked.print)?);
+    let came = carry_out(alloc, said.as_slice(), kernel, console, files, &mut sink);
+    Ok(Shown {
+        status: came.status,
+        line: Vec::from_slice(alloc, sink.bytes())?,
+        log: letters(alloc, came.log.entries.slice())?,
+        done: came.kernel.done().len(),
+        says_hi: says_hi(came.kernel.done()),
+    })
 }
 
 /// HELLO with one byte changed.
@@ -166,140 +211,56 @@ fn changed(alloc: Global, place: usize, byte: u8) -> Result<Vec<u8>, AllocError>
 
 #[test]
 fn hello_is_run_to_its_end(rt: HostRuntime) -> Result<(), Fail> {
-    let row = row_of(&rt, rt.alloc(), &["run", "hello"], HELLO, NONE_FAIL)?;
-    assert_eq!(rt;
-        (row.status, row.line.as_slice() == b"ended 0\n".as_slice()),
-        (0, true)
-    );
-    assert_eq!(rt; (row.done, row.says_hi), (1, true));
-    assert_eq!(rt; (row.entries, row.how), (2, Some(How::Ended(0))));
+    let alloc = rt.alloc();
+    let hello = words(&["run", "hello", "an", "argument"]);
+    let row = row_of(&rt, alloc, hello, &[("hello", HELLO)])?;
+    assert!(rt; row.status == 0 && row.line.as_slice() == b"ended 0\n".as_slice());
+    assert!(rt; row.done == 1 && row.says_hi && row.log.as_slice() == b"CE".as_slice());
     Ok(())
 }
 
 #[test]
-fn the_code_of_the_exit_is_the_status(rt: HostRuntime) -> Result<(), Fail> {
-    let module = changed(rt.alloc(), CODE, 7)?;
-    let row = row_of(
-        &rt,
-        rt.alloc(),
-        &["run", "hello"],
-        module.as_slice(),
-        NONE_FAIL,
-    )?;
-    assert_eq!(rt;
-        (row.status, row.line.as_slice() == b"ended 7\n".as_slice()),
-        (1, true)
-    );
-    Ok(())
-}
-
-#[test]
-fn iovecs_out_of_bounds_make_no_call(rt: HostRuntime) -> Result<(), Fail> {
-    // The iovecs stand at -3.
-    let module = changed(rt.alloc(), IOVS, 0x7d)?;
-    let row = row_of(
-        &rt,
-        rt.alloc(),
-        &["run", "hello"],
-        module.as_slice(),
-        NONE_FAIL,
-    )?;
-    assert_eq!(rt;
-        (row.status, row.line.as_slice() == b"ended 0\n".as_slice()),
-        (0, true)
-    );
-    assert_eq!(rt; (row.done, row.entries), (0, 1));
-    Ok(())
-}
-
-#[test]
-fn padded_numbers_are_read(rt: HostRuntime) -> Result<(), Fail> {
+fn changed_guests_run(rt: HostRuntime) -> Result<(), Fail> {
+    let alloc = rt.alloc();
+    let code = changed(alloc, CODE, 7)?;
+    // The iovecs stand at -3: errno 21, and no call.
+    let iovecs = changed(alloc, IOVS, 0x7d)?;
     // The size of the memory section, which is 3, in five bytes.
-    let hello = HELLO.as_slice();
-    let mut module = Vec::from_slice(rt.alloc(), &hello[..103])?;
-    module.extend_from_slice(b"\x83\x80\x80\x80\x00")?;
-    module.extend_from_slice(&hello[104..])?;
-    let row = row_of(
-        &rt,
-        rt.alloc(),
-        &["run", "hello"],
-        module.as_slice(),
-        NONE_FAIL,
-    )?;
-    assert_eq!(rt;
-        (row.status, row.line.as_slice() == b"ended 0\n".as_slice()),
-        (0, true)
-    );
+    let mut padded = Vec::from_slice(alloc, &HELLO[..103])?;
+    padded.extend_from_slice(b"\x83\x80\x80\x80\x00")?;
+    padded.extend_from_slice(&HELLO[104..])?;
+    let rows = [
+        (code.as_slice(), 1, b"ended 7\n".as_slice(), 1),
+        (iovecs.as_slice(), 0, b"ended 0\n".as_slice(), 0),
+        (padded.as_slice(), 0, b"ended 0\n".as_slice(), 1),
+    ];
+    for (module, status, line, done) in rows {
+        let row = row_of(&rt, alloc, words(&["run", "hello"]), &[("hello", module)])?;
+        assert!(rt; row.status == status && row.line.as_slice() == line && row.done == done);
+    }
     Ok(())
 }
 
 #[test]
 fn rules_are_counted_or_refused(rt: HostRuntime) -> Result<(), Fail> {
-    let alloc = rt.alloc();
     let drops = b"mvrules 1\nrule\nread $f -> @x\nto\nend\n".as_slice();
     let keeps =
         b"mvrules 1\nrule\nwrite $f \"OK\" -> all\nto\nwrite $f \"+OK\" -> all\nend".as_slice();
     let rows = [
         (keeps, 0, b"rules 1\n".as_slice()),
-        (drops, 4, b"mv: hello: Reads 2\n".as_slice()),
+        (drops, 4, b"mv: fwd: Reads 2\n".as_slice()),
         // Without the last line.
         (
             &drops[..drops.len() - 4],
             4,
-            b"mv: hello: Shape 5\n".as_slice(),
+            b"mv: fwd: Shape 5\n".as_slice(),
         ),
     ];
     for (text, status, line) in rows {
-        let row = judged(&rt, alloc, text)?;
-        assert_eq!(rt; (row.status, row.line.as_slice() == line), (status, true));
+        let row = row_of(&rt, rt.alloc(), words(&["rules", "fwd"]), &[("fwd", text)])?;
+        assert!(rt; row.status == status && row.line.as_slice() == line);
     }
     Ok(())
-}
-
-/// What `rules` says of a text.
-fn judged(rt: &impl Abort, alloc: Global, text: &[u8]) -> Result<Shown, Fail> {
-    let words = texts(alloc, &["rules", "hello"])?;
-    let kernel = MemKernel::new(alloc, Vec::new(alloc));
-    let files = files(rt, alloc, text, None)?;
-    let mut sink = VecSink::new(alloc, Vec::new(alloc));
-    let came = rules_command(
-        alloc,
-        words.as_slice(),
-        kernel,
-        console(alloc),
-        files,
-        &mut sink,
-    );
-    no_guest(alloc, came.status, &sink)
-}
-
-/// What `check` says of the file of this path, where the file `hello` is this module.
-fn checked(rt: &impl Abort, alloc: Global, path: &str, module: &[u8]) -> Result<Shown, Fail> {
-    let words = texts(alloc, &["check", path])?;
-    let kernel = MemKernel::new(alloc, Vec::new(alloc));
-    let files = files(rt, alloc, module, None)?;
-    let mut sink = VecSink::new(alloc, Vec::new(alloc));
-    let came = check_command(
-        alloc,
-        words.as_slice(),
-        kernel,
-        console(alloc),
-        files,
-        &mut sink,
-    );
-    no_guest(alloc, came.status, &sink)
-}
-
-/// What a command showed that started no guest.
-fn no_guest(alloc: Global, status: u8, sink: &VecSink) -> Result<Shown, Fail> {
-    Ok(Shown {
-        status,
-        line: Vec::from_slice(alloc, sink.bytes())?,
-        done: 0,
-        says_hi: false,
-        entries: 0,
-        how: None,
-    })
 }
 
 #[test]
@@ -318,23 +279,17 @@ fn modules_are_valid_or_have_their_first_fault(rt: HostRuntime) -> Result<(), Fa
 \x0a\x0b\x01\x09\0\0\x43\0\0\0\0\x1a\x0b"
         .as_slice();
     let rows = [
-        ("hello", empty, 0, b"valid\n".as_slice()),
-        ("hello", HELLO.as_slice(), 0, b"valid\n".as_slice()),
-        ("hello", dead, 0, b"valid\n".as_slice()),
-        ("nofile", empty, 3, b"mv: file nofile\n".as_slice()),
-        ("hello", &empty[..7], 4, b"mv: hello: Cut 7\n".as_slice()),
-        ("hello", long_number, 4, b"mv: hello: Leb 9\n".as_slice()),
-        ("hello", float, 4, b"mv: hello: Float 24\n".as_slice()),
-        (
-            "hello",
-            operand,
-            4,
-            b"mv: hello: Operand 10 0 2\n".as_slice(),
-        ),
+        (empty, 0, b"valid\n".as_slice()),
+        (HELLO.as_slice(), 0, b"valid\n".as_slice()),
+        (dead, 0, b"valid\n".as_slice()),
+        (&empty[..7], 4, b"mv: module: Cut 7\n".as_slice()),
+        (long_number, 4, b"mv: module: Leb 9\n".as_slice()),
+        (float, 4, b"mv: module: Float 24\n".as_slice()),
+        (operand, 4, b"mv: module: Operand 10 0 2\n".as_slice()),
     ];
-    for (path, module, status, line) in rows {
-        let row = checked(&rt, rt.alloc(), path, module)?;
-        assert_eq!(rt; (row.status, row.line.as_slice() == line), (status, true));
+    for (module, status, line) in rows {
+        let row = row_of(&rt, rt.alloc(), words(&["check", "module"]), &[("module", module)])?;
+        assert!(rt; row.status == status && row.line.as_slice() == line);
     }
     Ok(())
 }
@@ -394,86 +349,92 @@ fn hello_is_written_as_it_is_read(rt: HostRuntime) -> Result<(), Fail> {
 
 #[test]
 fn words_and_files_are_refused(rt: HostRuntime) -> Result<(), Fail> {
-    let empty = b"\0asm\x01\0\0\0";
-    let row = row_of(&rt, rt.alloc(), &["run", "nofile"], HELLO, NONE_FAIL)?;
-    assert_eq!(rt;
-        (
-            row.status,
-            row.line.as_slice() == b"mv: file nofile\n".as_slice()
-        ),
-        (3, true)
-    );
-    let row = row_of(&rt, rt.alloc(), &["run", "hello"], empty, NONE_FAIL)?;
-    assert_eq!(rt;
-        (
-            row.status,
-            row.line.as_slice() == b"mv: hello: NotYet\n".as_slice()
-        ),
-        (4, true)
-    );
-    let row = row_of(&rt, rt.alloc(), &["run", "hello"], &HELLO[..7], NONE_FAIL)?;
-    assert_eq!(rt;
-        (
-            row.status,
-            row.line.as_slice() == b"mv: hello: Cut 7\n".as_slice()
-        ),
-        (4, true)
-    );
-    let row = row_of(&rt, rt.alloc(), &["run"], HELLO, NONE_FAIL)?;
-    assert_eq!(rt;
-        (
-            row.status,
-            row.line.as_slice() == b"mv: bad words\n".as_slice()
-        ),
-        (2, true)
-    );
+    let bad = b"mv: bad words\n".as_slice();
+    let rows: [(&[&str], u8, &[u8]); 12] = [
+        (&["run", "nofile"], 3, b"mv: file nofile\n"),
+        (&["check", "nofile"], 3, b"mv: file nofile\n"),
+        (&["rehearse", "hello", "nofile"], 3, b"mv: file nofile\n"),
+        (&["run", "empty"], 4, b"mv: empty: NoEntry\n"),
+        (&["run", "cut"], 4, b"mv: cut: Cut 7\n"),
+        (&["rehearse", "hello", "cut"], 4, b"mv: cut: Letter 0\n"),
+        (&["run"], 2, bad),
+        (&["rehearse", "hello"], 2, bad),
+        (&["run", "hello", "-x"], 2, bad),
+        (&["check", "hello", "more"], 2, bad),
+        (&["rehearse", "hello", "plan", "--ring", "3"], 2, bad),
+        (&["jump"], 2, bad),
+    ];
+    let empty = b"\0asm\x01\0\0\0".as_slice();
+    for (said, status, line) in rows {
+        let named = [
+            ("hello", HELLO.as_slice()),
+            ("empty", empty),
+            ("cut", &empty[..7]),
+            ("plan", b"L".as_slice()),
+        ];
+        let row = row_of(&rt, rt.alloc(), words(said), &named)?;
+        assert!(rt; row.status == status && row.line.as_slice() == line && row.log.is_empty());
+    }
     Ok(())
 }
 
 #[test]
-fn a_failing_kernel_ends_the_run(rt: HostRuntime) -> Result<(), Fail> {
-    let fail = Failing {
-        perform: Some(0),
-        read: None,
-        print: None,
-    };
-    let row = row_of(&rt, rt.alloc(), &["run", "hello"], HELLO, fail)?;
-    assert_eq!(rt;
-        (
-            row.status,
-            row.line.as_slice() == b"kernel fault\n".as_slice()
-        ),
-        (6, true)
-    );
-    assert_eq!(rt;
-        (row.done, row.entries, row.how),
-        (0, 1, Some(How::KernelFault))
-    );
+fn failures_outside_show(rt: HostRuntime) -> Result<(), Fail> {
+    let alloc = rt.alloc();
+    let named = [("hello", HELLO.as_slice())];
+    let mut asked = words(&["run", "hello"]);
+    asked.perform = Some(0);
+    let row = row_of(&rt, alloc, asked, &named)?;
+    assert!(rt; row.status == 6 && row.line.as_slice() == b"kernel fault\n".as_slice());
+    assert!(rt; row.done == 0 && row.log.as_slice() == b"E".as_slice());
+    let mut asked = words(&["run", "hello"]);
+    asked.print = Some(0);
+    let row = row_of(&rt, alloc, asked, &named)?;
+    assert!(rt; row.status == 7 && row.done == 1);
+    let mut asked = words(&["run", "hello"]);
+    asked.read = Some(0);
+    let row = row_of(&rt, alloc, asked, &named)?;
+    assert!(rt; row.status == 3 && row.line.as_slice() == b"mv: file hello\n".as_slice());
     Ok(())
 }
 
+/// The schedule whose beats are leader, carry, three steps, judgement, eight times.
+const BLOCKS: &[u8] = b"LCFFFJ LCFFFJ LCFFFJ LCFFFJ\nLCFFFJ LCFFFJ LCFFFJ LCFFFJ\n";
+
 #[test]
-fn failing_files_and_sinks_show(rt: HostRuntime) -> Result<(), Fail> {
-    let fail = Failing {
-        perform: None,
-        read: None,
-        print: Some(0),
-    };
-    let row = row_of(&rt, rt.alloc(), &["run", "hello"], HELLO, fail)?;
-    assert_eq!(rt; (row.status, row.done), (7, 1));
-    let fail = Failing {
-        perform: None,
-        read: Some(0),
-        print: None,
-    };
-    let row = row_of(&rt, rt.alloc(), &["run", "hello"], HELLO, fail)?;
-    assert_eq!(rt;
-        (
-            row.status,
-            row.line.as_slice() == b"mv: file hello\n".as_slice()
-        ),
-        (3, true)
-    );
+fn updates_are_rehearsed(rt: HostRuntime) -> Result<(), Fail> {
+    let alloc = rt.alloc();
+    let mut other = Vec::from_slice(alloc, VERSION)?;
+    let last = other.len() - 2;
+    other[last] = b'o';
+    let update = (0, "update new none none");
+    let differs = (0, "update other none none");
+    let rows: [(&[(usize, &str)], &str, &[u8], &[u8]); 5] = [
+        // Nobody orders.
+        (&[], "blocks", b"PCPE", b"ended 0\n"),
+        // The new version makes equal calls.
+        (&[update], "blocks", b"OFPCPE", b"ended 0\n"),
+        // It writes `ho` where the leader wrote `hi`.
+        (&[differs], "blocks", b"OFPCDPE", b"ended 0\n"),
+        // The operator gives it up.
+        (&[update, (2, "discard")], "blocks", b"OFODPCPE", b"ended 0\n"),
+        // The schedule ends before the log does.
+        (&[update], "once", b"OE", b"cut\n"),
+    ];
+    for (orders, schedule, log, line) in rows {
+        let named = [
+            ("old", VERSION.as_slice()),
+            ("new", VERSION.as_slice()),
+            ("other", other.as_slice()),
+            ("blocks", BLOCKS),
+            ("once", b"L".as_slice()),
+        ];
+        let said = ["rehearse", "old", schedule];
+        let mut asked = words(&said);
+        asked.orders = orders;
+        let row = row_of(&rt, alloc, asked, &named)?;
+        assert!(rt; row.status == 0 && row.log.as_slice() == log && row.line.as_slice() == line);
+    }
     Ok(())
 }
 
@@ -484,15 +445,14 @@ fn status_of_program<R: Threads + Wait + Sync>(
     files: MemFiles,
     mut sink: VecSink,
 ) -> Result<u8, Fail> {
-    let words = texts(alloc, &["run", "hello"])?;
-    let kernel = MemKernel::new(alloc, Vec::new(alloc));
+    let said = texts(alloc, &["run", "hello"])?;
     let gate = FreeGate::new();
     let came = program(
         rt,
         alloc,
-        words.as_slice(),
-        kernel,
-        console(alloc),
+        said.as_slice(),
+        kernel(alloc, None)?,
+        console(alloc, &[])?,
         files,
         &gate,
         &mut sink,
@@ -502,7 +462,7 @@ fn status_of_program<R: Threads + Wait + Sync>(
 
 #[test]
 fn the_program_runs_the_words(rt: HostRuntime) -> Result<(), Fail> {
-    let files = files(&rt, rt.alloc(), HELLO, None)?;
+    let files = files(&rt, rt.alloc(), &[("hello", HELLO)], None)?;
     let sink = VecSink::new(rt.alloc(), Vec::new(rt.alloc()));
     assert_eq!(rt; status_of_program(&rt, rt.alloc(), files, sink)?, 0);
     Ok(())

@@ -5,3 +5,4 @@ pub mod Holding
 pub mod Taken
 pub mod Parsed
 pub mod Asking
+pub mod OneReading

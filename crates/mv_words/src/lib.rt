@@ -3,8 +3,10 @@
 
 mod command;
 mod given;
+mod laws;
 mod reading;
 mod shapes;
 
 pub use command::{BadWords, Command};
+pub use laws::words_ask_for_one_thing;
 pub use reading::read_words;

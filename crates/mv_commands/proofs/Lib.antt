@@ -1,0 +1,5 @@
+pub mod Wholes
+pub mod Letters
+pub mod Comings
+pub mod Showings
+pub mod Exactness

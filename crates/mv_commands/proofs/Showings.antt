@@ -1,0 +1,13 @@
+-- Each ending has a line.
+use Rattle.std.proofs.Common.{◌≡◌, [], List, ℕ, refl}
+use Rattle.mv_commands.specs.Lines.{IsLine}
+use Rattle.mv_commands.specs.declared.ending.Ending.{Ending}
+use Rattle.mv_commands.specs.declared.ending.Ending.TheVariants.{BadWords, NoMemory, Told, NoFile, Found, Ran}
+
+pub some_line : (ending : Ending) → (line : List ℕ) × IsLine ending line
+some_line BadWords = (_, refl)
+some_line NoMemory = (_, refl)
+some_line Told = ([], tt)
+some_line (NoFile path) = (_, refl)
+some_line (Found path finding) = (_, refl)
+some_line (Ran h) = (_, refl)

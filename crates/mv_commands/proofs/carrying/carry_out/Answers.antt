@@ -1,0 +1,5 @@
+use Rattle.mv_commands.proofs.Exactness.{exact_is}
+use Rattle.mv_commands.proofs.carrying.carry_out.Goals as goal
+
+pub returns-clause-exact : goal.returns-clause-exact
+returns-clause-exact g c = exact_is _ _ _ _ _ _ _ c.shown.ensures

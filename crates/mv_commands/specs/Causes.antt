@@ -1,0 +1,181 @@
+-- What holds where a command line comes to an ending, and which ending comes (docs/GUIDE.md, "Statuses").
+use Rattle.std.specs.Prelude.{◌≡◌, ◌≤◌, ◌⊎◌, ℕ, List, [], ◌∷◌, Option, Some, None, slice_get, Ok}
+use Rattle.mv_calls.specs.declared.calls.Item.{Item}
+use Rattle.mv_outside.specs.Began.{Began}
+use Rattle.mv_outside.specs.Causes.{Rose}
+use Rattle.mv_outside.specs.Files.{FileMap}
+use Rattle.mv_history.specs.Ends.{EndsBy}
+use Rattle.mv_history.specs.World.{AreLegal, begun, texts}
+use Rattle.mv_history.specs.declared.log.How.{How}
+use Rattle.mv_history.specs.declared.log.How.TheVariants as how
+use Rattle.mv_history.specs.declared.log.Log.{Log}
+use Rattle.mv_core.specs.Found.{AreFilesKept}
+use Rattle.mv_rehearse.specs.Runs.{DidCalls, IsLegalRun, OrdersAnswered, Rehearsed, end_status}
+use Rattle.mv_rehearse.specs.declared.beats.Beat.{Beat}
+use Rattle.mv_version.specs.Behaviour.{Behaviour}
+use Rattle.mv_guest.specs.Standing.{Standing}
+use Rattle.mv_transform.specs.Births.{behaviour, started}
+use Rattle.mv_words.specs.Commands.{Says}
+use Rattle.mv_words.specs.declared.command.Command.{Command}
+use Rattle.mv_words.specs.declared.command.Command.TheVariants as ask
+use Rattle.mv_commands.specs.Lines.{Shows, finding_status}
+use Rattle.mv_commands.specs.Named.{FileIs, FoundAt, GoesOn, IsMissing, StandsAt, StopsAt, files_of}
+use Rattle.mv_commands.specs.Schedules.{schedule_of}
+use Rattle.mv_commands.specs.declared.ending.Finding.{Finding}
+use Rattle.mv_commands.specs.declared.ending.Ending.{Ending}
+use Rattle.mv_commands.specs.declared.ending.Ending.TheVariants.{BadWords, NoMemory, Told, NoFile, Found, Ran}
+
+-- what kernel, console and files tell at a moment, and how often each has failed
+pub record Seen : Type 0 where
+  pub done : Option (List Item)
+  pub coming : Option (List (Option (List ℕ)))
+  pub said : Option (List ℕ)
+  pub files : Option FileMap
+  pub kernel_faults : ℕ
+  pub console_faults : ℕ
+  pub file_faults : ℕ
+
+abbrev pub seen_of : {K C F : Type 0} → (K → Option (List Item)) → (K → ℕ) → (C → Option (List (Option (List ℕ)))) → (C → Option (List ℕ)) → (C → ℕ) → (F → Option FileMap) → (F → ℕ) → K → C → F → Seen
+seen_of done kernel_faults coming said console_faults content file_faults kernel console files =
+    record { done = done kernel; coming = coming console; said = said console; files = content files; kernel_faults = kernel_faults kernel; console_faults = console_faults console; file_faults = file_faults files }
+
+-- ## No guest ran
+
+pub record NoGuest (before after : Seen) (log : Log) : Type 0 where
+  pub entries : log.entries.list ≡ []
+  pub updates : log.updates.list ≡ []
+  pub bytes : log.start.«module» ≡ []
+  pub args : log.start.args ≡ []
+  pub done : after.done ≡ before.done
+  pub coming : after.coming ≡ before.coming
+  pub said : after.said ≡ before.said
+  pub files : after.files ≡ before.files
+  pub kernel_faults : after.kernel_faults ≡ before.kernel_faults
+  pub console_faults : after.console_faults ≡ before.console_faults
+  pub file_faults : before.file_faults ≤ after.file_faults
+
+-- ## A guest ran
+
+-- the run begins with what was there before the command, but that the files may have failed since
+pub record IsBegun (before : Seen) (log : Log) (began : Began) : Type 0 where
+  pub start : began.start ≡ log.start.«module»
+  pub args : began.args ≡ log.start.args
+  pub done : began.done ≡ before.done
+  pub coming : began.coming ≡ before.coming
+  pub said : began.said ≡ before.said
+  pub files : began.files ≡ before.files
+  pub kernel_faults : began.kernel_faults ≡ before.kernel_faults
+  pub console_faults : began.console_faults ≡ before.console_faults
+  pub file_faults : before.file_faults ≤ began.files_faults
+
+-- A guest of the file OLD with these arguments ran, and its log ended so. The log is legal, and the calls done are the log's.
+pub record IsRun (old : List ℕ) (args : List (List ℕ)) (before after : Seen) (began : Began) (log : Log) (h : How) : Type 0 where
+  pub module_is : StandsAt before.files old log.start.«module»
+  pub args_are : log.start.args ≡ old ∷ args
+  pub begins : IsBegun before log began
+  pub legal : IsLegalRun behaviour began log
+  pub did : DidCalls began log.entries.list after.done after.kernel_faults
+  pub files : AreFilesKept began.files began.files_faults log.entries.list log.updates.list after.files after.file_faults
+  pub ends : EndsBy log.entries.list h
+
+-- without orders, up to its end
+pub record RanAlone (old : List ℕ) (args : List (List ℕ)) (before after : Seen) (log : Log) (h : How) : Type 0 where
+  pub began : Began
+  pub is_run : IsRun old args before after began log h
+  pub no_texts : texts log.entries.list ≡ []
+  pub no_updates : log.updates.list ≡ []
+  pub coming : after.coming ≡ before.coming
+  pub said : after.said ≡ before.said
+  pub whole : EndsBy log.entries.list how.Cut → ⊥
+
+-- the log is that of these beats, over a feed of this capacity
+pub record IsRehearsal {V : Type 0} (b : Behaviour V) (began : Began) (ring : ℕ) (beats : List Beat) (log : Log) : Type 0 where
+  pub reached : Rehearsed b began ring beats log
+
+-- by the beats of a schedule, over a feed of this capacity, with an operator who was asked for orders
+pub record RanBy (old schedule : List ℕ) (args : List (List ℕ)) (ring : ℕ) (before after : Seen) (log : Log) (h : How) : Type 0 where
+  pub began : Began
+  pub is_run : IsRun old args before after began log h
+  pub text : List ℕ
+  pub schedule_is : StandsAt before.files schedule text
+  pub beats : List Beat
+  pub beats_are : schedule_of text ≡ Ok beats
+  pub rehearsed : IsRehearsal behaviour began ring beats log
+  pub orders : OrdersAnswered began log.entries.list after.coming after.said after.console_faults
+
+abbrev pub RanFor : Command → Seen → Seen → Log → How → Type 0
+RanFor (ask.Run old args) before after log h = RanAlone old args before after log h
+RanFor (ask.Rehearse old schedule args ring) before after log h = RanBy old schedule args ring before after log h
+RanFor (ask.Check path) before after log h = ⊥
+RanFor (ask.Rules forward) before after log h = ⊥
+RanFor ask.Help before after log h = ⊥
+RanFor ask.Version before after log h = ⊥
+
+-- ## The cause of an ending
+
+abbrev pub IsAbout : Command → Type 0
+IsAbout ask.Help = Unit {0}
+IsAbout ask.Version = Unit {0}
+IsAbout command = ⊥
+
+abbrev pub RunsGuest : Command → Type 0
+RunsGuest (ask.Run old args) = Unit {0}
+RunsGuest (ask.Rehearse old schedule args ring) = Unit {0}
+RunsGuest command = ⊥
+
+-- the capacity that a command gives is one of a feed
+abbrev pub IsFeasible : Command → Type 0
+IsFeasible (ask.Rehearse old schedule args ring) = (4 ≤ ring) × (ring ≤ 4096)
+IsFeasible command = Unit {0}
+
+-- of this command
+abbrev pub CauseOf : Command → Seen → Seen → Log → Ending → Type 0
+CauseOf command before after log BadWords = ⊥
+CauseOf command before after log NoMemory = NoGuest before after log
+CauseOf command before after log Told = IsAbout command × NoGuest before after log
+CauseOf command before after log (NoFile path) =
+    StopsAt command before.files path (λ n. IsMissing before.files path ⊎ Rose before.file_faults after.file_faults) × NoGuest before after log
+CauseOf command before after log (Found path finding) =
+    StopsAt command before.files path (λ n. FileIs before.files path (λ text. FoundAt command n text finding)) × NoGuest before after log
+CauseOf command before after log (Ran h) = RanFor command before after log h
+
+-- of these words; where memory was wanted before they were read, nobody knows what they say
+abbrev pub HasCause : List (List ℕ) → Seen → Seen → Log → Ending → Type 0
+HasCause words before after log BadWords = ((command : Command) → Says words command → ⊥) × NoGuest before after log
+HasCause words before after log NoMemory = NoGuest before after log
+HasCause words before after log ending = (command : Command) × Says words command × CauseOf command before after log ending
+
+-- the status: an ending has its cause, and shows
+abbrev pub HasStatus : List (List ℕ) → Seen → Seen → Log → Option (List ℕ) × Option (List ℕ) → ℕ × ℕ → ℕ → Type 0
+HasStatus words before after log printed sink_faults status =
+    (ending : Ending) × HasCause words before after log ending × Shows ending printed sink_faults status
+
+-- ## The other way round
+
+-- the sink failed, or memory was wanted
+abbrev pub Otherwise : ℕ × ℕ → ℕ → Type 0
+Otherwise sink_faults status = ((status ≡ 7) × Rose sink_faults.0 sink_faults.1) ⊎ (status ≡ 9)
+
+-- a call on the files failed, or the above
+abbrev pub Fails : Seen → Seen → ℕ × ℕ → ℕ → Type 0
+Fails before after sink_faults status = ((status ≡ 3) × Rose before.file_faults after.file_faults) ⊎ Otherwise sink_faults status
+
+-- Which status comes, by what the words and the told files are, unless something fails or memory is wanted.
+pub record IsExact (words : List (List ℕ)) (before after : Seen) (log : Log) (sink_faults : ℕ × ℕ) (status : ℕ) : Type 0 where
+  pub bad_words : ((command : Command) → Says words command → ⊥) → (status ≡ 2) ⊎ Otherwise sink_faults status
+  pub told : (command : Command) → Says words command → IsAbout command → (status ≡ 0) ⊎ Otherwise sink_faults status
+  pub missing : (command : Command) (files : FileMap) (path : List ℕ) → Says words command → before.files ≡ Some files →
+      StopsAt command before.files path (λ n. files path ≡ None) → (status ≡ 3) ⊎ Otherwise sink_faults status
+  pub found : (command : Command) (files : FileMap) (path : List ℕ) (finding : Finding) → Says words command → before.files ≡ Some files →
+      StopsAt command before.files path (λ n. FileIs before.files path (λ text. FoundAt command n text finding)) →
+      (status ≡ finding_status finding) ⊎ Fails before after sink_faults status
+  pub ran : (command : Command) (files : FileMap) → Says words command → RunsGuest command → before.files ≡ Some files →
+      ((n : ℕ) (path : List ℕ) → slice_get (files_of command) n ≡ Some path → FileIs before.files path (GoesOn command n)) →
+      ((h : How) × EndsBy log.entries.list h × (status ≡ end_status h)) ⊎ Fails before after sink_faults status
+
+-- ## The log
+
+-- it has no entry, or is a legal log of the guest that its start gives
+abbrev pub IsLegal : Log → Type 0
+IsLegal log =
+    (log.entries.list ≡ []) ⊎ ((first : Standing) × (started log.start.«module» log.start.args ≡ Ok first) × AreLegal behaviour log.updates.list (begun first) log.entries.list)

@@ -1,0 +1,173 @@
+-- The status and the line of each ending (docs/GUIDE.md, "Statuses"; docs/FORMATS.md, "Fault lines").
+use Rattle.std.specs.Prelude.{◌≡◌, ℕ, ◌==◌, if◌then◌else◌, List, [], ◌∷◌, ◌++◌, codes, decimal, Option, ◌⊎◌}
+use Rattle.mv_calls.specs.declared.trap.Trap.{Trap}
+use Rattle.mv_calls.specs.declared.trap.Trap.TheVariants as trap
+use Rattle.mv_syntax.specs.declared.fault.ReadKind.{ReadKind}
+use Rattle.mv_syntax.specs.declared.fault.ReadKind.TheVariants as read
+use Rattle.mv_syntax.specs.declared.fault.ValidKind.{ValidKind}
+use Rattle.mv_syntax.specs.declared.fault.ValidKind.TheVariants as valid
+use Rattle.mv_syntax.specs.declared.fault.StartFault.{StartFault}
+use Rattle.mv_syntax.specs.declared.fault.StartFault.TheVariants as start
+use Rattle.mv_syntax.specs.declared.fault.BornFault.{BornFault}
+use Rattle.mv_syntax.specs.declared.fault.BornFault.TheVariants as born
+use Rattle.mv_rules.specs.declared.fault.RuleKind.{RuleKind}
+use Rattle.mv_rules.specs.declared.fault.RuleKind.TheVariants as rule
+use Rattle.mv_history.specs.declared.log.How.{How}
+use Rattle.mv_history.specs.declared.log.How.TheVariants as how
+use Rattle.mv_rehearse.specs.Runs.{end_status}
+use Rattle.mv_outside.specs.Causes.{Rose}
+use Rattle.mv_outside.specs.Told.{told_more, AddsPart}
+use Rattle.mv_commands.specs.declared.ending.ScheduleFault.{ScheduleFault}
+use Rattle.mv_commands.specs.declared.ending.ScheduleFault.TheVariants.{Letter, Limit}
+use Rattle.mv_commands.specs.declared.ending.Finding.{Finding}
+use Rattle.mv_commands.specs.declared.ending.Finding.TheVariants.{Refused, Valid, BadRules, Rules, BadSchedule}
+use Rattle.mv_commands.specs.declared.ending.Ending.{Ending}
+use Rattle.mv_commands.specs.declared.ending.Ending.TheVariants.{BadWords, NoMemory, Told, NoFile, Found, Ran}
+
+-- ## Names
+
+abbrev pub trap_text : Trap → List ℕ
+trap_text trap.Unreachable = codes "Unreachable"
+trap_text trap.DivideByZero = codes "DivideByZero"
+trap_text trap.Overflow = codes "Overflow"
+trap_text trap.Bounds = codes "Bounds"
+trap_text trap.TableIndex = codes "TableIndex"
+trap_text trap.EmptyElement = codes "EmptyElement"
+trap_text trap.IndirectType = codes "IndirectType"
+trap_text trap.Frames = codes "Frames"
+trap_text trap.Operands = codes "Operands"
+trap_text trap.Spent = codes "Spent"
+trap_text trap.OldGlobal = codes "OldGlobal"
+trap_text trap.NotNow = codes "NotNow"
+trap_text trap.CallInTransform = codes "CallInTransform"
+
+abbrev pub read_kind_text : ReadKind → List ℕ
+read_kind_text read.Magic = codes "Magic"
+read_kind_text read.Cut = codes "Cut"
+read_kind_text read.Order = codes "Order"
+read_kind_text read.Size = codes "Size"
+read_kind_text read.Leb = codes "Leb"
+read_kind_text read.Utf8 = codes "Utf8"
+read_kind_text read.Kind = codes "Kind"
+read_kind_text read.Float = codes "Float"
+read_kind_text read.LaterFeature = codes "LaterFeature"
+read_kind_text read.Count = codes "Count"
+read_kind_text read.Limit = codes "Limit"
+
+abbrev pub valid_kind_text : ValidKind → List ℕ
+valid_kind_text valid.TypeIndex = codes "TypeIndex"
+valid_kind_text valid.FuncIndex = codes "FuncIndex"
+valid_kind_text valid.NoTable = codes "NoTable"
+valid_kind_text valid.NoMemory = codes "NoMemory"
+valid_kind_text valid.GlobalIndex = codes "GlobalIndex"
+valid_kind_text valid.LocalIndex = codes "LocalIndex"
+valid_kind_text valid.LabelIndex = codes "LabelIndex"
+valid_kind_text valid.Operand = codes "Operand"
+valid_kind_text valid.Immutable = codes "Immutable"
+valid_kind_text valid.Align = codes "Align"
+valid_kind_text valid.Constant = codes "Constant"
+valid_kind_text valid.Limits = codes "Limits"
+valid_kind_text valid.ExportName = codes "ExportName"
+valid_kind_text valid.StartType = codes "StartType"
+
+abbrev pub rule_kind_text : RuleKind → List ℕ
+rule_kind_text rule.Size = codes "Size"
+rule_kind_text rule.Header = codes "Header"
+rule_kind_text rule.Shape = codes "Shape"
+rule_kind_text rule.Many = codes "Many"
+rule_kind_text rule.Empty = codes "Empty"
+rule_kind_text rule.Word = codes "Word"
+rule_kind_text rule.Number = codes "Number"
+rule_kind_text rule.Quote = codes "Quote"
+rule_kind_text rule.Name = codes "Name"
+rule_kind_text rule.Twice = codes "Twice"
+rule_kind_text rule.Unbound = codes "Unbound"
+rule_kind_text rule.Reads = codes "Reads"
+rule_kind_text rule.Accepts = codes "Accepts"
+rule_kind_text rule.Guard = codes "Guard"
+
+-- ## Lines
+
+abbrev pub line_feed : List ℕ
+line_feed = 10 ∷ []
+
+abbrev pub numbers_text : List ℕ → List ℕ
+numbers_text [] = []
+numbers_text (n ∷ ns) = codes " " ++ (decimal n ++ numbers_text ns)
+
+-- a file's fault: its kind, and where it stands
+abbrev pub fault_text : List ℕ → List ℕ → List ℕ → List ℕ
+fault_text path kind numbers = codes "mv: " ++ (path ++ (codes ": " ++ (kind ++ (numbers_text numbers ++ line_feed))))
+
+abbrev pub start_fault_text : List ℕ → StartFault → List ℕ
+start_fault_text path start.NoEntry = fault_text path (codes "NoEntry") []
+start_fault_text path (start.UnknownImport import) = fault_text path (codes "UnknownImport") (import ∷ [])
+start_fault_text path (start.ImportType import) = fault_text path (codes "ImportType") (import ∷ [])
+start_fault_text path (start.ElementBounds segment) = fault_text path (codes "ElementBounds") (segment ∷ [])
+start_fault_text path (start.DataBounds segment) = fault_text path (codes "DataBounds") (segment ∷ [])
+start_fault_text path (start.Trap t) = fault_text path (trap_text t) []
+
+-- the last four are no faults of a guest that starts
+abbrev pub refusal_text : List ℕ → BornFault → List ℕ
+refusal_text path (born.Read fault) = fault_text path (read_kind_text fault.kind) (fault.place ∷ [])
+refusal_text path (born.Valid fault) = fault_text path (valid_kind_text fault.kind) (fault.part ∷ fault.item ∷ fault.at ∷ [])
+refusal_text path (born.Start fault) = start_fault_text path fault
+refusal_text path born.NoTransform = fault_text path (codes "NoTransform") []
+refusal_text path born.NoResume = fault_text path (codes "NoResume") []
+refusal_text path (born.Transform t) = fault_text path (trap_text t) []
+refusal_text path (born.Code code) = fault_text path (codes "Code") (code ∷ [])
+
+abbrev pub schedule_fault_text : List ℕ → ScheduleFault → List ℕ
+schedule_fault_text path (Letter place) = fault_text path (codes "Letter") (place ∷ [])
+schedule_fault_text path Limit = fault_text path (codes "Limit") (0 ∷ [])
+
+abbrev pub finding_text : List ℕ → Finding → List ℕ
+finding_text path (Refused fault) = refusal_text path fault
+finding_text path Valid = codes "valid" ++ line_feed
+finding_text path (BadRules fault) = fault_text path (rule_kind_text fault.kind) (fault.line ∷ [])
+finding_text path (Rules count) = codes "rules " ++ (decimal count ++ line_feed)
+finding_text path (BadSchedule fault) = schedule_fault_text path fault
+
+-- the end line of a run
+abbrev pub end_text : How → List ℕ
+end_text (how.Ended code) = codes "ended " ++ (decimal code ++ line_feed)
+end_text (how.Trapped t) = codes "trapped " ++ (trap_text t ++ line_feed)
+end_text how.Halted = codes "halted" ++ line_feed
+end_text how.Cut = codes "cut" ++ line_feed
+end_text how.KernelFault = codes "kernel fault" ++ line_feed
+end_text how.LogLimit = codes "log limit" ++ line_feed
+end_text how.Memory = codes "no memory" ++ line_feed
+
+-- the line that says an ending; what the program says of itself is any text
+abbrev pub IsLine : Ending → List ℕ → Type 0
+IsLine BadWords text = text ≡ codes "mv: bad words" ++ line_feed
+IsLine NoMemory text = text ≡ codes "no memory" ++ line_feed
+IsLine Told text = Unit {0}
+IsLine (NoFile path) text = text ≡ codes "mv: file " ++ (path ++ line_feed)
+IsLine (Found path finding) text = text ≡ finding_text path finding
+IsLine (Ran h) text = text ≡ end_text h
+
+-- ## Statuses
+
+abbrev pub finding_status : Finding → ℕ
+finding_status (Refused fault) = 4
+finding_status Valid = 0
+finding_status (BadRules fault) = 4
+finding_status (Rules count) = 0
+finding_status (BadSchedule fault) = 4
+
+abbrev pub status_of : Ending → ℕ
+status_of BadWords = 2
+status_of NoMemory = 9
+status_of Told = 0
+status_of (NoFile path) = 3
+status_of (Found path finding) = finding_status finding
+status_of (Ran h) = end_status h
+
+-- An ending shows by its status and its whole line; or by 7 where the sink failed, with a part of the line; or by 9 for
+-- want of memory, with nothing.
+abbrev pub Shows : Ending → Option (List ℕ) × Option (List ℕ) → ℕ × ℕ → ℕ → Type 0
+Shows ending printed faults status =
+    (line : List ℕ) × IsLine ending line × (((status ≡ status_of ending) × (printed.1 ≡ told_more printed.0 line))
+    ⊎ (((status ≡ 7) × Rose faults.0 faults.1 × AddsPart printed.0 line printed.1)
+    ⊎ ((status ≡ 9) × (printed.1 ≡ printed.0))))

@@ -1,0 +1,68 @@
+-- For private clauses: what a guest's file is found to be, and what a command comes to before its line is printed.
+use Rattle.std.specs.Prelude.{◌≡◌, ◌⊎◌, ℕ, List, ◌∷◌, Option, Result, Ok, Err}
+use Rattle.mv_outside.specs.Causes.{Rose}
+use Rattle.mv_outside.specs.Files.{FileMap}
+use Rattle.mv_core.specs.Sound.{IsNewRun}
+use Rattle.mv_rehearse.specs.declared.beats.Beat.{Beat}
+use Rattle.mv_transform.specs.Births.{behaviour, started}
+use Rattle.mv_commands.specs.Named.{FileIs, IsMissing, StandsAt, HasFault, IsInvalid, IsValidFile, HasRuleFault, HasRules}
+use Rattle.mv_commands.specs.Schedules.{schedule_of}
+use Rattle.mv_commands.specs.declared.ending.Finding.{Finding}
+use Rattle.mv_commands.specs.declared.ending.Ending.{Ending}
+use Rattle.mv_commands.specs.declared.ending.Ending.TheVariants as ending
+use Rattle.mv_commands.specs.declared.loading.Loaded.{Loaded}
+use Rattle.mv_commands.specs.declared.loading.Loaded.TheVariants as loaded
+use Rattle.mv_commands.specs.declared.loading.Planned.{Planned}
+use Rattle.mv_commands.specs.declared.loading.Planned.TheVariants as planned
+use Rattle.mv_commands.specs.declared.judging.Judged.{Judged}
+use Rattle.mv_commands.specs.declared.judging.Judged.TheVariants as judged
+
+-- what the file of a guest with these arguments is found to be
+abbrev pub IsLoaded : Option FileMap → List ℕ → List (List ℕ) → ℕ → ℕ → Loaded → Type 0
+IsLoaded told path args faults faults_now loaded.NoFile = IsMissing told path ⊎ Rose faults faults_now
+IsLoaded told path args faults faults_now loaded.NoMemory = Unit {0}
+IsLoaded told path args faults faults_now (loaded.Refused fault) = FileIs told path (λ text. started text args ≡ Err fault)
+IsLoaded told path args faults faults_now (loaded.Starts guest log) =
+    IsNewRun behaviour guest log × (log.start.args ≡ args) × StandsAt told path log.start.«module»
+
+-- what a text that was read is found to be
+abbrev pub IsStarted : List ℕ → List (List ℕ) → Loaded → Type 0
+IsStarted text args loaded.NoFile = ⊥
+IsStarted text args loaded.NoMemory = Unit {0}
+IsStarted text args (loaded.Refused fault) = started text args ≡ Err fault
+IsStarted text args (loaded.Starts guest log) = IsNewRun behaviour guest log × (log.start.args ≡ args) × (log.start.«module» ≡ text)
+
+-- what the file of a schedule is found to be
+abbrev pub IsPlanned : Option FileMap → List ℕ → ℕ → ℕ → Planned → Type 0
+IsPlanned told path faults faults_now planned.NoFile = IsMissing told path ⊎ Rose faults faults_now
+IsPlanned told path faults faults_now planned.NoMemory = Unit {0}
+IsPlanned told path faults faults_now (planned.Refused fault) = FileIs told path (λ text. schedule_of text ≡ Err fault)
+IsPlanned told path faults faults_now (planned.Beats beats) = (text : List ℕ) × StandsAt told path text × (schedule_of text ≡ Ok beats.items)
+
+-- what a text that was read is found to be
+abbrev pub IsPlannedOf : List ℕ → Planned → Type 0
+IsPlannedOf text planned.NoFile = ⊥
+IsPlannedOf text planned.NoMemory = Unit {0}
+IsPlannedOf text (planned.Refused fault) = schedule_of text ≡ Err fault
+IsPlannedOf text (planned.Beats beats) = schedule_of text ≡ Ok beats.items
+
+-- which findings say what a text is
+abbrev pub Meaning : Type 1
+Meaning = List ℕ → Finding → Type 0
+
+-- what the file of this path is found to be
+abbrev pub IsJudged : Meaning → Option FileMap → List ℕ → ℕ → ℕ → Judged → Type 0
+IsJudged Says told path faults faults_now judged.NoFile = IsMissing told path ⊎ Rose faults faults_now
+IsJudged Says told path faults faults_now judged.NoMemory = Unit {0}
+IsJudged Says told path faults faults_now (judged.Found finding) = FileIs told path (λ text. Says text finding)
+
+abbrev pub IsJudgedOf : Meaning → List ℕ → Judged → Type 0
+IsJudgedOf Says text judged.NoFile = ⊥
+IsJudgedOf Says text judged.NoMemory = Unit {0}
+IsJudgedOf Says text (judged.Found finding) = Says text finding
+
+-- the ending of a command that judges this file
+abbrev pub ending_by : List ℕ → Judged → Ending
+ending_by path judged.NoFile = ending.NoFile path
+ending_by path judged.NoMemory = ending.NoMemory
+ending_by path (judged.Found finding) = ending.Found path finding

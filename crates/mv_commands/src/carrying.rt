@@ -1,0 +1,139 @@
+//! The program: the words, carried out.
+ghost use Rattle.std.specs.Prelude.{◌≡◌, map, string_bytes};
+ghost use Rattle.mv_outside.specs.Told.{told_more};
+ghost use Rattle.mv_history.specs.World.{outside};
+ghost use Rattle.mv_commands.specs.Causes.{HasCause, HasStatus, IsExact, IsLegal, seen_of};
+ghost use Rattle.mv_commands.specs.Lines.{Shows};
+
+use crate::ending::Ending;
+use crate::running::{Came, did, not_run};
+use crate::showing::show;
+use mv_calls::Or;
+use mv_outside::{Console, Files, Gate, Kernel, Sink};
+use mv_rehearse::Outcome;
+use mv_words::read_words;
+use std::alloc::Global;
+use std::sync::Wait;
+use std::thread::Threads;
+
+/// Carries out the words of a command line, the command word first.
+///
+/// The headline, as far as it is built: the calls done by the kernel are exactly the log's, and the log is legal, so cut at
+/// its changes of leader it is runs of the leading version, and each discarded update shows its cause. The status has its cause
+/// by the table of statuses, and what is printed is its line.
+///
+/// The commands so far start no thread and wait for nothing, so `rt` and `gate` aren't used yet.
+pub fn program<
+    R: Threads + Wait + Sync,
+    K: Kernel + Send,
+    C: Console + Send,
+    F: Files + Send,
+    S: Sink,
+    G: Gate + Sync,
+>(
+    rt: &R,
+    alloc: Global,
+    words: &[String],
+    kernel: K,
+    console: C,
+    files: F,
+    gate: &G,
+    out: &mut S,
+) -> Outcome<K, C, F>
+    ensures done { K.done result.kernel ≡ told_more (K.done kernel) (outside result.log.entries.list) }
+    ensures legal { IsLegal result.log }
+    ensures files { F.content result.files ≡ F.content files }
+    ensures status { HasStatus (map string_bytes words.now)
+      (seen_of K.done K.faults C.coming C.said C.faults F.content F.faults kernel console files)
+      (seen_of K.done K.faults C.coming C.said C.faults F.content F.faults result.kernel result.console result.files)
+      result.log (S.written out.old, S.written out.new) (S.faults out.old, S.faults out.new) result.status }
+    ensures exact { IsExact (map string_bytes words.now)
+      (seen_of K.done K.faults C.coming C.said C.faults F.content F.faults kernel console files)
+      (seen_of K.done K.faults C.coming C.said C.faults F.content F.faults result.kernel result.console result.files)
+      result.log (S.faults out.old, S.faults out.new) result.status }
+{
+    let _ = rt;
+    let _ = gate;
+    carry_out(alloc, words, kernel, console, files, out)
+}
+
+/// Carries out the words of a command that starts no thread. It returns on any words and any files.
+pub fn carry_out<K: Kernel, C: Console, F: Files, S: Sink>(
+    alloc: Global,
+    words: &[String],
+    kernel: K,
+    console: C,
+    files: F,
+    out: &mut S,
+) -> Outcome<K, C, F>
+    ensures done { K.done result.kernel ≡ told_more (K.done kernel) (outside result.log.entries.list) }
+    ensures legal { IsLegal result.log }
+    ensures files { F.content result.files ≡ F.content files }
+    ensures status { HasStatus (map string_bytes words.now)
+      (seen_of K.done K.faults C.coming C.said C.faults F.content F.faults kernel console files)
+      (seen_of K.done K.faults C.coming C.said C.faults F.content F.faults result.kernel result.console result.files)
+      result.log (S.written out.old, S.written out.new) (S.faults out.old, S.faults out.new) result.status }
+    ensures exact { IsExact (map string_bytes words.now)
+      (seen_of K.done K.faults C.coming C.said C.faults F.content F.faults kernel console files)
+      (seen_of K.done K.faults C.coming C.said C.faults F.content F.faults result.kernel result.console result.files)
+      result.log (S.faults out.old, S.faults out.new) result.status }
+{
+    shown(alloc, words, kernel, console, files, out)
+}
+
+/// The same, but for what follows of the cause.
+fn shown<K: Kernel, C: Console, F: Files, S: Sink>(
+    alloc: Global,
+    words: &[String],
+    kernel: K,
+    console: C,
+    files: F,
+    out: &mut S,
+) -> Outcome<K, C, F>
+    ensures { HasStatus (map string_bytes words.now)
+      (seen_of K.done K.faults C.coming C.said C.faults F.content F.faults kernel console files)
+      (seen_of K.done K.faults C.coming C.said C.faults F.content F.faults result.kernel result.console result.files)
+      result.log (S.written out.old, S.written out.new) (S.faults out.old, S.faults out.new) result.status }
+{
+    let came = came_of(alloc, words, kernel, console, files);
+    finish(alloc, came, out)
+}
+
+/// What the words come to, before the line is printed.
+fn came_of<K: Kernel, C: Console, F: Files>(
+    alloc: Global,
+    words: &[String],
+    kernel: K,
+    console: C,
+    files: F,
+) -> Came<K, C, F>
+    ensures { HasCause (map string_bytes words.now)
+      (seen_of K.done K.faults C.coming C.said C.faults F.content F.faults kernel console files)
+      (seen_of K.done K.faults C.coming C.said C.faults F.content F.faults result.kernel result.console result.files)
+      result.log result.ending }
+{
+    match read_words(alloc, words) {
+        Ok(command) => did(alloc, command, kernel, console, files),
+        Err(Or::Fault(_)) => not_run(alloc, Ending::BadWords, kernel, console, files),
+        Err(Or::OutOfMemory) => not_run(alloc, Ending::NoMemory, kernel, console, files),
+    }
+}
+
+/// Prints the line of what came, and gives the status.
+fn finish<K: Kernel, C: Console, F: Files, S: Sink>(
+    alloc: Global,
+    came: Came<K, C, F>,
+    out: &mut S,
+) -> Outcome<K, C, F>
+    ensures same { (result.kernel ≡ came.kernel) × (result.console ≡ came.console) × (result.files ≡ came.files) × (result.log ≡ came.log) }
+    ensures shows { Shows came.ending (S.written out.old, S.written out.new) (S.faults out.old, S.faults out.new) result.status }
+{
+    let status = show(alloc, &came.ending, out);
+    Outcome {
+        status,
+        kernel: came.kernel,
+        console: came.console,
+        files: came.files,
+        log: came.log,
+    }
+}

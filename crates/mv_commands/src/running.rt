@@ -1,0 +1,226 @@
+//! What each command does, up to the line that it prints.
+ghost use Rattle.std.specs.Prelude.{◌≡◌, ◌≤◌, []};
+ghost use Rattle.mv_core.specs.Found.{AreFilesKept};
+ghost use Rattle.mv_core.specs.Sound.{IsNewRun};
+ghost use Rattle.mv_rehearse.specs.Runs.{DidCalls, HasEnded, IsLegalRun, OrdersAnswered, began_with};
+ghost use Rattle.mv_history.specs.Ends.{EndsBy};
+ghost use Rattle.mv_history.specs.declared.log.How.{How as hows};
+ghost use Rattle.mv_words.specs.declared.command.Command.TheVariants as ask;
+ghost use Rattle.mv_commands.specs.Causes.{CauseOf, IsFeasible, IsRehearsal, seen_of};
+ghost use Rattle.mv_commands.specs.Loading.{ending_by};
+
+use crate::ending::{Ending, Finding};
+use crate::judging::{Judged, module_at, rules_at};
+use crate::loading::{Loaded, Planned, guest_at, schedule_at};
+use mv_calls::{Bytes, Texts};
+use mv_history::{Entry, How, Log, Mark};
+use mv_outside::{Console, Files, Kernel};
+use mv_rehearse::{Beat, Outcome, alone, rehearse};
+use mv_transform::Guest;
+use mv_version::Version;
+use mv_words::Command;
+use std::alloc::Global;
+
+/// What a command came to, with the objects that it was given.
+#[derive(Drop)]
+pub struct Came<K, C, F> {
+    pub ending: Ending,
+    pub kernel: K,
+    pub console: C,
+    pub files: F,
+    pub log: Log,
+}
+
+/// No guest ran: kernel, console and files are as they were.
+pub fn not_run<K: Kernel, C: Console, F: Files>(
+    alloc: Global,
+    ending: Ending,
+    kernel: K,
+    console: C,
+    files: F,
+) -> Came<K, C, F>
+    ensures ending { result.ending ≡ ending }
+    ensures same { (result.kernel ≡ kernel) × (result.console ≡ console) × (result.files ≡ files) }
+    ensures log { (result.log.entries.list ≡ []) × (result.log.updates.list ≡ []) × (result.log.start.«module» ≡ []) × (result.log.start.args ≡ []) }
+{
+    Came {
+        ending,
+        kernel,
+        console,
+        files,
+        log: Log::empty(alloc),
+    }
+}
+
+/// How a log has ended.
+fn how_of(log: &Log) -> How
+    ensures { (h : hows) → EndsBy log.now.entries.list h → result ≡ h }
+{
+    match log.entries.slice().last() {
+        Some(Entry::Mark(Mark::End { how })) => *how,
+        _ => How::Memory,
+    }
+}
+
+/// `run OLD [ARG ..]`: runs a guest to its end, and asks nobody for orders.
+fn run_asked<K: Kernel, C: Console, F: Files>(
+    alloc: Global,
+    old: Bytes,
+    args: &Texts,
+    kernel: K,
+    console: C,
+    mut files: F,
+) -> Came<K, C, F>
+    ensures { CauseOf (ask.Run old args.now) (seen_of K.done K.faults C.coming C.said C.faults F.content F.faults kernel console files) (seen_of K.done K.faults C.coming C.said C.faults F.content F.faults result.kernel result.console result.files) result.log result.ending }
+{
+    match guest_at(alloc, &old, args, &mut files) {
+        Loaded::NoFile => not_run(alloc, Ending::NoFile { path: old }, kernel, console, files),
+        Loaded::NoMemory => not_run(alloc, Ending::NoMemory, kernel, console, files),
+        Loaded::Refused(fault) => {
+            let finding = Finding::Refused(fault);
+            let ending = Ending::Found { path: old, finding };
+            not_run(alloc, ending, kernel, console, files)
+        }
+        Loaded::Starts { guest, log } => {
+            let outcome = alone::<Guest, K, C, F>(alloc, guest, log, kernel, console, files);
+            let how = how_of(&outcome.log);
+            Came {
+                ending: Ending::Ran(how),
+                kernel: outcome.kernel,
+                console: outcome.console,
+                files: outcome.files,
+                log: outcome.log,
+            }
+        }
+    }
+}
+
+/// Rehearses the beats of a schedule, with any version.
+fn by_beats<V: Version, K: Kernel, C: Console, F: Files>(
+    alloc: Global,
+    guest: V,
+    log: Log,
+    kernel: K,
+    console: C,
+    files: F,
+    capacity: usize,
+    beats: &[Beat],
+) -> Outcome<K, C, F>
+    requires new_run { IsNewRun V.behaviour guest log }
+    requires capacity { (4 ≤ capacity) × (capacity ≤ 4096) }
+    ensures beats { IsRehearsal V.behaviour (began_with K.done K.faults C.coming C.said C.faults F.content F.faults log kernel console files) capacity beats.now result.log }
+    ensures legal { IsLegalRun V.behaviour (began_with K.done K.faults C.coming C.said C.faults F.content F.faults log kernel console files) result.log }
+    ensures done { DidCalls (began_with K.done K.faults C.coming C.said C.faults F.content F.faults log kernel console files) result.log.entries.list (K.done result.kernel) (K.faults result.kernel) }
+    ensures orders { OrdersAnswered (began_with K.done K.faults C.coming C.said C.faults F.content F.faults log kernel console files) result.log.entries.list (C.coming result.console) (C.said result.console) (C.faults result.console) }
+    ensures files { AreFilesKept (F.content files) (F.faults files) result.log.entries.list result.log.updates.list (F.content result.files) (F.faults result.files) }
+    ensures ended { HasEnded result.log.entries.list result.status }
+{
+    rehearse::<V, K, C, F>(alloc, guest, log, kernel, console, files, capacity, beats)
+}
+
+/// `rehearse OLD SCHEDULE [ARG ..] [--ring N]`: runs a guest by the beats of a schedule, and asks the operator for orders.
+fn rehearse_asked<K: Kernel, C: Console, F: Files>(
+    alloc: Global,
+    old: Bytes,
+    schedule: Bytes,
+    args: &Texts,
+    ring: u32,
+    kernel: K,
+    console: C,
+    mut files: F,
+) -> Came<K, C, F>
+    requires ring { (4 ≤ ring) × (ring ≤ 4096) }
+    ensures { CauseOf (ask.Rehearse old schedule args.now ring) (seen_of K.done K.faults C.coming C.said C.faults F.content F.faults kernel console files) (seen_of K.done K.faults C.coming C.said C.faults F.content F.faults result.kernel result.console result.files) result.log result.ending }
+{
+    let (guest, log) = match guest_at(alloc, &old, args, &mut files) {
+        Loaded::NoFile => {
+            return not_run(alloc, Ending::NoFile { path: old }, kernel, console, files);
+        }
+        Loaded::NoMemory => return not_run(alloc, Ending::NoMemory, kernel, console, files),
+        Loaded::Refused(fault) => {
+            let finding = Finding::Refused(fault);
+            let ending = Ending::Found { path: old, finding };
+            return not_run(alloc, ending, kernel, console, files);
+        }
+        Loaded::Starts { guest, log } => (guest, log),
+    };
+    match schedule_at(alloc, &schedule, &mut files) {
+        Planned::NoFile => {
+            not_run(alloc, Ending::NoFile { path: schedule }, kernel, console, files)
+        }
+        Planned::NoMemory => not_run(alloc, Ending::NoMemory, kernel, console, files),
+        Planned::Refused(fault) => {
+            let finding = Finding::BadSchedule(fault);
+            let ending = Ending::Found {
+                path: schedule,
+                finding,
+            };
+            not_run(alloc, ending, kernel, console, files)
+        }
+        Planned::Beats(beats) => {
+            let capacity = ring as usize;
+            let outcome = by_beats::<Guest, K, C, F>(
+                alloc,
+                guest,
+                log,
+                kernel,
+                console,
+                files,
+                capacity,
+                beats.as_slice(),
+            );
+            let how = how_of(&outcome.log);
+            Came {
+                ending: Ending::Ran(how),
+                kernel: outcome.kernel,
+                console: outcome.console,
+                files: outcome.files,
+                log: outcome.log,
+            }
+        }
+    }
+}
+
+/// What a file was found to be.
+fn ending_of(path: Bytes, judged: Judged) -> Ending
+    ensures { result ≡ ending_by path judged }
+{
+    match judged {
+        Judged::NoFile => Ending::NoFile { path },
+        Judged::NoMemory => Ending::NoMemory,
+        Judged::Found(finding) => Ending::Found { path, finding },
+    }
+}
+
+/// Does what a command line asks for.
+pub fn did<K: Kernel, C: Console, F: Files>(
+    alloc: Global,
+    command: Command,
+    kernel: K,
+    console: C,
+    mut files: F,
+) -> Came<K, C, F>
+    requires { IsFeasible command }
+    ensures { CauseOf command (seen_of K.done K.faults C.coming C.said C.faults F.content F.faults kernel console files) (seen_of K.done K.faults C.coming C.said C.faults F.content F.faults result.kernel result.console result.files) result.log result.ending }
+{
+    match command {
+        Command::Run { old, args } => run_asked(alloc, old, &args, kernel, console, files),
+        Command::Rehearse {
+            old,
+            schedule,
+            args,
+            ring,
+        } => rehearse_asked(alloc, old, schedule, &args, ring, kernel, console, files),
+        Command::Check { path } => {
+            let judged = module_at(alloc, &path, &mut files);
+            not_run(alloc, ending_of(path, judged), kernel, console, files)
+        }
+        Command::Rules { forward } => {
+            let judged = rules_at(alloc, &forward, &mut files);
+            not_run(alloc, ending_of(forward, judged), kernel, console, files)
+        }
+        Command::Help | Command::Version => {
+            not_run(alloc, Ending::Told, kernel, console, files)
+        }
+    }
+}
