@@ -1,0 +1,1 @@
+//! Runs on two threads.
