@@ -172,7 +172,7 @@ impl<'a, R: Clock> Gate for Scene<'a, R> {
     }
 }
 
-/// A kernel that tells nothing, and answers by error 6. Each call waits until so many steps of the follower were called.
+/// A kernel that tells nothing, and answers by error 6. Its first call waits until so many steps were called.
 #[derive(Drop)]
 struct Held<'a, R> {
     rt: &'a R,
@@ -195,8 +195,10 @@ impl<'a, R: Clock> Kernel for Held<'a, R> {
 
     fn perform(&mut self, _call: &Call, _room: Room) -> Result<Reply, Failed> {
         let counters = self.counters;
-        counters.calls.fetch_add(1, Ordering::SeqCst);
-        hold(self.rt, &counters.steps, self.steps, &counters.limits);
+        let done = counters.calls.fetch_add(1, Ordering::SeqCst);
+        if done == 0 {
+            hold(self.rt, &counters.steps, self.steps, &counters.limits);
+        }
         Ok(Reply::Errno(6))
     }
 }
