@@ -335,14 +335,14 @@ module _ (words : List (List ℕ)) (seen after : Seen) (log : Log) (sink : ℕ �
   gone_or_rose command files path other finding n m told stops found shows = elim found.stops [
     | inr rose ↦ file_fault rose shows
     | inl missing ↦ absurd (elim (order stops.number found.number) [
-        | before less ↦
-            let both = both_of seen.files files path _ _ told stops.stops (found.earlier stops.number path less stops.named) in
-            ends_not_on command stops.number both.0 finding both.1 both.2
-        | same e ↦
-            let paths : path ≡ other = same_path _ _ _ stops.named (ap (slice_get (files_of command)) e ∙ found.named) in
-            not_gone seen.files files other _ told (subst (λ (p : List ℕ). Ends command p finding stops.number) paths stops.stops) (missing files told)
-        | behind less ↦ not_gone seen.files files other _ told (stops.earlier found.number other less found.named) (missing files told)
-      ])
+      | before less ↦
+          let both = both_of seen.files files path _ _ told stops.stops (found.earlier stops.number path less stops.named) in
+          ends_not_on command stops.number both.0 finding both.1 both.2
+      | same e ↦
+          let paths : path ≡ other = same_path _ _ _ stops.named (ap (slice_get (files_of command)) e ∙ found.named) in
+          not_gone seen.files files other _ told (subst (λ (p : List ℕ). Ends command p finding stops.number) paths stops.stops) (missing files told)
+      | behind less ↦ not_gone seen.files files other _ told (stops.earlier found.number other less found.named) (missing files told)
+    ])
   ]
 
   found_is : (command : Command) (files : FileMap) (path : List ℕ) (finding : Finding) (ending : Ending) → Says words command → seen.files ≡ Some files → StopsAt command seen.files path (Ends command path finding) → HasCause words seen after log ending

@@ -34,6 +34,7 @@ beats_step front text i d within = sym (ap (λ (t : List ℕ). front ++ beats_in
   where
     rest : List Beat
     rest = beats_in (drop (i + 1) text)
+
     at : (o : Option Beat) → front ++ with_beat o rest ≡ (front ++ option_to_list o) ++ rest
     at None = ap (λ (f : List Beat). f ++ rest) (sym (append-nil front))
     at (Some beat) = sym (append_assoc front (beat ∷ []) rest)

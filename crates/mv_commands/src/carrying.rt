@@ -44,13 +44,13 @@ pub fn program<
     ensures legal { IsLegal result.log }
     ensures files { F.content result.files ≡ F.content files }
     ensures status { HasStatus (map string_bytes words.now)
-      (seen_of K.done K.faults C.coming C.said C.faults F.content F.faults kernel console files)
-      (seen_of K.done K.faults C.coming C.said C.faults F.content F.faults result.kernel result.console result.files)
-      result.log (S.written out.old, S.written out.new) (S.faults out.old, S.faults out.new) result.status }
+        (seen_of K.done K.faults C.coming C.said C.faults F.content F.faults kernel console files)
+        (seen_of K.done K.faults C.coming C.said C.faults F.content F.faults result.kernel result.console result.files)
+        result.log (S.written out.old, S.written out.new) (S.faults out.old, S.faults out.new) result.status }
     ensures exact { IsExact (map string_bytes words.now)
-      (seen_of K.done K.faults C.coming C.said C.faults F.content F.faults kernel console files)
-      (seen_of K.done K.faults C.coming C.said C.faults F.content F.faults result.kernel result.console result.files)
-      result.log (S.faults out.old, S.faults out.new) result.status }
+        (seen_of K.done K.faults C.coming C.said C.faults F.content F.faults kernel console files)
+        (seen_of K.done K.faults C.coming C.said C.faults F.content F.faults result.kernel result.console result.files)
+        result.log (S.faults out.old, S.faults out.new) result.status }
 {
     let _ = rt;
     let _ = gate;
@@ -70,13 +70,13 @@ pub fn carry_out<K: Kernel, C: Console, F: Files, S: Sink>(
     ensures legal { IsLegal result.log }
     ensures files { F.content result.files ≡ F.content files }
     ensures status { HasStatus (map string_bytes words.now)
-      (seen_of K.done K.faults C.coming C.said C.faults F.content F.faults kernel console files)
-      (seen_of K.done K.faults C.coming C.said C.faults F.content F.faults result.kernel result.console result.files)
-      result.log (S.written out.old, S.written out.new) (S.faults out.old, S.faults out.new) result.status }
+        (seen_of K.done K.faults C.coming C.said C.faults F.content F.faults kernel console files)
+        (seen_of K.done K.faults C.coming C.said C.faults F.content F.faults result.kernel result.console result.files)
+        result.log (S.written out.old, S.written out.new) (S.faults out.old, S.faults out.new) result.status }
     ensures exact { IsExact (map string_bytes words.now)
-      (seen_of K.done K.faults C.coming C.said C.faults F.content F.faults kernel console files)
-      (seen_of K.done K.faults C.coming C.said C.faults F.content F.faults result.kernel result.console result.files)
-      result.log (S.faults out.old, S.faults out.new) result.status }
+        (seen_of K.done K.faults C.coming C.said C.faults F.content F.faults kernel console files)
+        (seen_of K.done K.faults C.coming C.said C.faults F.content F.faults result.kernel result.console result.files)
+        result.log (S.faults out.old, S.faults out.new) result.status }
 {
     shown(alloc, words, kernel, console, files, out)
 }
@@ -91,9 +91,9 @@ fn shown<K: Kernel, C: Console, F: Files, S: Sink>(
     out: &mut S,
 ) -> Outcome<K, C, F>
     ensures { HasStatus (map string_bytes words.now)
-      (seen_of K.done K.faults C.coming C.said C.faults F.content F.faults kernel console files)
-      (seen_of K.done K.faults C.coming C.said C.faults F.content F.faults result.kernel result.console result.files)
-      result.log (S.written out.old, S.written out.new) (S.faults out.old, S.faults out.new) result.status }
+        (seen_of K.done K.faults C.coming C.said C.faults F.content F.faults kernel console files)
+        (seen_of K.done K.faults C.coming C.said C.faults F.content F.faults result.kernel result.console result.files)
+        result.log (S.written out.old, S.written out.new) (S.faults out.old, S.faults out.new) result.status }
 {
     let came = came_of(alloc, words, kernel, console, files);
     finish(alloc, came, out)
@@ -108,9 +108,9 @@ fn came_of<K: Kernel, C: Console, F: Files>(
     files: F,
 ) -> Came<K, C, F>
     ensures { HasCause (map string_bytes words.now)
-      (seen_of K.done K.faults C.coming C.said C.faults F.content F.faults kernel console files)
-      (seen_of K.done K.faults C.coming C.said C.faults F.content F.faults result.kernel result.console result.files)
-      result.log result.ending }
+        (seen_of K.done K.faults C.coming C.said C.faults F.content F.faults kernel console files)
+        (seen_of K.done K.faults C.coming C.said C.faults F.content F.faults result.kernel result.console result.files)
+        result.log result.ending }
 {
     match read_words(alloc, words) {
         Ok(command) => did(alloc, command, kernel, console, files),

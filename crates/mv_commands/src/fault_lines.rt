@@ -134,12 +134,7 @@ fn fault_line(
 }
 
 /// The line of a file's fault that stands at one number.
-fn indexed_line(
-    alloc: Global,
-    path: &Bytes,
-    kind: &str,
-    index: u32,
-) -> Result<Vec<u8>, OutOfMemory>
+fn indexed_line(alloc: Global, path: &Bytes, kind: &str, index: u32) -> Result<Vec<u8>, OutOfMemory>
     ensures { IfOk result (λ line. line.items ≡ fault_text path.now kind.now (index ∷ [])) }
 {
     let index = u64::from(index);
@@ -147,11 +142,7 @@ fn indexed_line(
 }
 
 /// The line of a fault of a start.
-fn start_fault_line(
-    alloc: Global,
-    path: &Bytes,
-    fault: StartFault,
-) -> Result<Vec<u8>, OutOfMemory>
+fn start_fault_line(alloc: Global, path: &Bytes, fault: StartFault) -> Result<Vec<u8>, OutOfMemory>
     ensures { IfOk result (λ line. line.items ≡ start_fault_text path.now fault) }
 {
     match fault {

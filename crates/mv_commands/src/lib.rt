@@ -1,14 +1,14 @@
 //! The commands of the program: from the words of a command line to a status and its line.
 #![tactic(auto)]
 
+mod carrying;
 mod ending;
 mod fault_lines;
 mod judging;
 mod loading;
-mod carrying;
 mod running;
 mod showing;
 
-pub use ending::{Ending, Finding, ScheduleFault};
 pub use carrying::{carry_out, program};
+pub use ending::{Ending, Finding, ScheduleFault};
 pub use mv_rehearse::Outcome;

@@ -75,10 +75,7 @@ fn begun(alloc: Global, guest: Guest, text: Bytes, args: Texts) -> Loaded
     requires started { started text args ≡ Ok (behaviour.state guest) }
     ensures { IsStarted text args result }
 {
-    let start = Start {
-        module: text,
-        args,
-    };
+    let start = Start { module: text, args };
     match Log::make(alloc, start) {
         Ok(log) => Loaded::Starts { guest, log },
         Err(_) => Loaded::NoMemory,

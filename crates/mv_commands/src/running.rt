@@ -146,7 +146,13 @@ fn rehearse_asked<K: Kernel, C: Console, F: Files>(
     };
     match schedule_at(alloc, &schedule, &mut files) {
         Planned::NoFile => {
-            not_run(alloc, Ending::NoFile { path: schedule }, kernel, console, files)
+            not_run(
+                alloc,
+                Ending::NoFile { path: schedule },
+                kernel,
+                console,
+                files,
+            )
         }
         Planned::NoMemory => not_run(alloc, Ending::NoMemory, kernel, console, files),
         Planned::Refused(fault) => {
@@ -219,8 +225,6 @@ pub fn did<K: Kernel, C: Console, F: Files>(
             let judged = rules_at(alloc, &forward, &mut files);
             not_run(alloc, ending_of(forward, judged), kernel, console, files)
         }
-        Command::Help | Command::Version => {
-            not_run(alloc, Ending::Told, kernel, console, files)
-        }
+        Command::Help | Command::Version => { not_run(alloc, Ending::Told, kernel, console, files) }
     }
 }

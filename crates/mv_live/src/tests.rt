@@ -123,12 +123,7 @@ fn console(alloc: Global, orders: &[(usize, &str)]) -> Result<MemConsole, Fail> 
         }
         lines.push(Some(Bytes::from_slice(alloc, line.as_bytes())?))?;
     }
-    Ok(MemConsole::new(
-        alloc,
-        lines,
-        Vec::new(alloc),
-        Vec::new(alloc),
-    ))
+    Ok(MemConsole::new(alloc, lines, Vec::new(alloc), Vec::new(alloc)))
 }
 
 fn kernel(alloc: Global, perform: Option<u64>) -> Result<MemKernel, Fail> {
@@ -288,7 +283,12 @@ fn modules_are_valid_or_have_their_first_fault(rt: HostRuntime) -> Result<(), Fa
         (operand, 4, b"mv: module: Operand 10 0 2\n".as_slice()),
     ];
     for (module, status, line) in rows {
-        let row = row_of(&rt, rt.alloc(), words(&["check", "module"]), &[("module", module)])?;
+        let row = row_of(
+            &rt,
+            rt.alloc(),
+            words(&["check", "module"]),
+            &[("module", module)],
+        )?;
         assert!(rt; row.status == status && row.line.as_slice() == line);
     }
     Ok(())
@@ -417,7 +417,12 @@ fn updates_are_rehearsed(rt: HostRuntime) -> Result<(), Fail> {
         // It writes `ho` where the leader wrote `hi`.
         (&[differs], "blocks", b"OFPCDPE", b"ended 0\n"),
         // The operator gives it up.
-        (&[update, (2, "discard")], "blocks", b"OFODPCPE", b"ended 0\n"),
+        (
+            &[update, (2, "discard")],
+            "blocks",
+            b"OFODPCPE",
+            b"ended 0\n",
+        ),
         // The schedule ends before the log does.
         (&[update], "once", b"OE", b"cut\n"),
     ];

@@ -62,9 +62,11 @@ use_value rows values placed n v known empty h = record { named = λ m k. at m k
   where
     free_row : has_row n rows ≡ false
     free_row = row_there rows n (values n) (h.named n known) ∙ ap (λ (vs : List Text). is_some (some_if vs)) empty
+
     other : (b : Bool) → b ≡ false → (if b then Some (or_nothing (look n rows) ++ v ∷ []) else look places_id rows) ≡ some_if placed
     other true e = absurd cc
     other false e = h.others
+
     at : (m : Text) → is_name option_names m ≡ true → (b : Bool) → bytes_eq n m ≡ b → look m (used (opt n) (v ∷ []) rows) ≡ some_if (values m ++ (if bytes_eq n m then v ∷ [] else []))
     at m k true e =
         let same : n ≡ m = (bytes_eq-Decides n m).0 e in

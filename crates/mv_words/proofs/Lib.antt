@@ -1,3 +1,4 @@
+-- `OneReading` is promised to the crates above; all else is for the proofs here.
 pub mod Walks
 pub mod Lemmas
 pub mod Rows

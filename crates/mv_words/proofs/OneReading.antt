@@ -94,7 +94,7 @@ both_asked words c d first second =
     let rings : second.rings ≡ first.rings = sym second.gives.rings_are ∙ ap (values_of (codes "ring")) said ∙ first.gives.rings_are in
     let placed : second.placed ≡ first.placed = sym second.gives.placed_is ∙ ap places said ∙ first.gives.placed_is in
     let asks : Asks first.word first.rings first.placed d =
-        subst (λ (w : Text). Asks w first.rings first.placed d) word (subst (λ (rs : List Text). Asks second.word rs first.placed d) rings (subst (λ (ps : List Text). Asks second.word second.rings ps d) placed second.asks)) in
+    subst (λ (w : Text). Asks w first.rings first.placed d) word (subst (λ (rs : List Text). Asks second.word rs first.placed d) rings (subst (λ (ps : List Text). Asks second.word second.rings ps d) placed second.asks)) in
     one_asked first.word first.rings first.placed c d first.asks asks
 
 -- ---- what asks about the program asks for nothing else

@@ -6,7 +6,10 @@ use mv_calls::{Bytes, Texts};
 #[derive(Debug, Drop)]
 pub enum Command {
     /// `run OLD [ARG ..]`.
-    Run { old: Bytes, args: Texts },
+    Run {
+        old: Bytes,
+        args: Texts,
+    },
     /// `rehearse OLD SCHEDULE [ARG ..] [--ring N]`; `ring` is 4 to 4,096.
     Rehearse {
         old: Bytes,
@@ -15,9 +18,13 @@ pub enum Command {
         ring: u32,
     },
     /// `check MODULE`.
-    Check { path: Bytes },
+    Check {
+        path: Bytes,
+    },
     /// `rules FWD`.
-    Rules { forward: Bytes },
+    Rules {
+        forward: Bytes,
+    },
     /// `--help`, alone or behind a command word.
     Help,
     /// `--version`, alone.

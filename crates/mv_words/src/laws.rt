@@ -6,5 +6,4 @@ ghost use Rattle.mv_words.specs.declared.command.Command.{Command as Asked};
 /// Words ask for one thing. The function does nothing; it carries the law.
 pub fn words_ask_for_one_thing()
     ensures { (words : List (List ℕ)) (first second : Asked) → Says words first → Says words second → first ≡ second }
-{
-}
+{}

@@ -6,6 +6,8 @@ mod given;
 mod laws;
 mod reading;
 mod shapes;
+#[cfg(test)]
+mod tests;
 
 pub use command::{BadWords, Command};
 pub use laws::words_ask_for_one_thing;

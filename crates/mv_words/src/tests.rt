@@ -1,0 +1,75 @@
+//! Words inside the grammar and outside of it.
+
+use super::*;
+use mv_calls::Or;
+use std::alloc::{AllocError, Global};
+use std::test::Fail;
+
+fn texts(alloc: Global, words: &[&str]) -> Result<Vec<String>, AllocError> {
+    let mut all = Vec::new(alloc);
+    for word in words {
+        all.push(String::from_str(alloc, word)?)?;
+    }
+    Ok(all)
+}
+
+/// Whether the words are those of no command.
+fn are_refused(alloc: Global, words: &[&str]) -> Result<bool, AllocError> {
+    let words = texts(alloc, words)?;
+    Ok(matches!(
+        read_words(alloc, words.as_slice()),
+        Err(Or::Fault(BadWords))
+    ))
+}
+
+/// The capacity that the words of a rehearsal give, with how many arguments; 0 where they are another command's.
+fn rehearsal(alloc: Global, words: &[&str]) -> Result<(u32, usize), Fail> {
+    let words = texts(alloc, words)?;
+    match read_words(alloc, words.as_slice())? {
+        Command::Rehearse { args, ring, .. } => Ok((ring, args.slice().len())),
+        _ => Ok((0, 0)),
+    }
+}
+
+#[test]
+fn words_in_the_grammar(rt: HostRuntime) -> Result<(), Fail> {
+    let alloc = rt.alloc();
+    assert_eq!(rt; rehearsal(alloc, &["rehearse", "old", "plan"])?, (256, 0));
+    assert_eq!(rt;
+        rehearsal(alloc, &["rehearse", "old", "--ring", "8", "plan", "a", "b"])?,
+        (8, 2)
+    );
+    assert_eq!(rt;
+        rehearsal(alloc, &["rehearse", "old", "plan", "--ring=04096"])?,
+        (4_096, 0)
+    );
+    assert_eq!(rt;
+        rehearsal(alloc, &["rehearse", "--", "-", "--ring", "-"])?,
+        (256, 1)
+    );
+    let words = texts(alloc, &["check", "--help"])?;
+    assert!(rt; matches!(read_words(alloc, words.as_slice()), Ok(Command::Help)));
+    Ok(())
+}
+
+#[test]
+fn words_outside_the_grammar(rt: HostRuntime) -> Result<(), Fail> {
+    let rows: [&[&str]; 12] = [
+        &[],
+        &["jump"],
+        &["run"],
+        &["run", "old", "-"],
+        &["run", "old", "-x"],
+        &["run", "old", ""],
+        &["run", "old", "--ring", "8"],
+        &["check", "old", "more"],
+        &["rehearse", "old", "plan", "--ring=4", "--ring=4"],
+        &["rehearse", "old", "plan", "--ring", "3"],
+        &["rehearse", "old", "plan", "--ring", "000004"],
+        &["rehearse", "old", "plan", "--help"],
+    ];
+    for words in rows {
+        assert!(rt; are_refused(rt.alloc(), words)?);
+    }
+    Ok(())
+}
