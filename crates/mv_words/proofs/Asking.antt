@@ -6,7 +6,7 @@ use Rattle.std.proofs.lemmas.Slice.Eq.{bytes_eq-Decides}
 use Rattle.mv_words.specs.Words.{Text, Part, parts, free, values_of, places}
 use Rattle.mv_words.specs.Commands.{option_names, Gives, IsRing, Asks, IsAsked, Says}
 use Rattle.mv_words.specs.declared.command.Command.{Command}
-use Rattle.mv_words.specs.declared.command.Command.TheVariants.{Run, Rehearse, Check, Rules, Help, Version}
+use Rattle.mv_words.specs.declared.command.Command.TheVariants.{Run, Rehearse, Serve, Check, Rules, Help, Version}
 
 -- one word
 pub one_text : {A : Type 0} (f : A → Text) (xs : List A) (a : A) (w : Text) → length xs ≡ 1 → true ≡ bytes_eq (f (get_or xs 0 a)) w → map f xs ≡ w ∷ []
@@ -34,6 +34,7 @@ one_ring (text ∷ other ∷ more) n ring = absurd ring
 few_rings : (word : Text) (rings placed : List Text) (command : Command) → Asks word rings placed command → length rings ≤ 1
 few_rings word rings placed (Run old args) asks = rw asks.1 (omega arith)
 few_rings word rings placed (Rehearse old schedule args ring) asks = one_ring rings ring asks.1
+few_rings word rings placed (Serve old args ring) asks = one_ring rings ring asks.1
 few_rings word rings placed (Check path) asks = rw asks.1 (omega arith)
 few_rings word rings placed (Rules forward) asks = rw asks.1 (omega arith)
 few_rings word rings placed Help asks = absurd asks
@@ -43,6 +44,7 @@ few_rings word rings placed Version asks = absurd asks
 pub says_by : (words : List Text) (word : Text) (rings placed : List Text) (command : Command) → words ≡ word ∷ drop 1 words → Gives (drop 1 words) rings placed → Asks word rings placed command → Says words command
 says_by words word rings placed (Run old args) are gives asks = record { word = word; behind = drop 1 words; words_are = are; rings = rings; placed = placed; gives = gives; asks = asks }
 says_by words word rings placed (Rehearse old schedule args ring) are gives asks = record { word = word; behind = drop 1 words; words_are = are; rings = rings; placed = placed; gives = gives; asks = asks }
+says_by words word rings placed (Serve old args ring) are gives asks = record { word = word; behind = drop 1 words; words_are = are; rings = rings; placed = placed; gives = gives; asks = asks }
 says_by words word rings placed (Check path) are gives asks = record { word = word; behind = drop 1 words; words_are = are; rings = rings; placed = placed; gives = gives; asks = asks }
 says_by words word rings placed (Rules forward) are gives asks = record { word = word; behind = drop 1 words; words_are = are; rings = rings; placed = placed; gives = gives; asks = asks }
 says_by words word rings placed Help are gives asks = absurd asks
@@ -57,6 +59,7 @@ AsksNothing words = (command : Command) → IsAsked words command → ⊥
 no_command : (words : List Text) → (Says words Help → ⊥) → (Says words Version → ⊥) → AsksNothing words → (command : Command) → Says words command → ⊥
 no_command words no_help no_version none (Run old args) says = none (Run old args) says
 no_command words no_help no_version none (Rehearse old schedule args ring) says = none (Rehearse old schedule args ring) says
+no_command words no_help no_version none (Serve old args ring) says = none (Serve old args ring) says
 no_command words no_help no_version none (Check path) says = none (Check path) says
 no_command words no_help no_version none (Rules forward) says = none (Rules forward) says
 no_command words no_help no_version none Help says = no_help says

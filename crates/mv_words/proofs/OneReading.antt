@@ -1,10 +1,10 @@
 -- Words ask for one thing.
-use Rattle.std.proofs.Common.{◌≡◌, [], ◌∷◌, ℕ, List, codes, refl, ap, ap₂, sym, ◌∙◌, subst, Option, Some, None, inl, inr, arith}
+use Rattle.std.proofs.Common.{◌≡◌, [], ◌∷◌, ℕ, List, codes, refl, ap, ap₂, sym, ◌∙◌, subst, Option, Some, None, inl, inr, arith, get_or}
 use Rattle.mv_scan.specs.Numbers.{decimal}
 use Rattle.mv_words.specs.Words.{Text, Part, parts, free, values_of, places}
 use Rattle.mv_words.specs.Commands.{option_names, Gives, IsCapacity, IsRing, Asks, IsAsked, IsCommandWord, Says}
 use Rattle.mv_words.specs.declared.command.Command.{Command}
-use Rattle.mv_words.specs.declared.command.Command.TheVariants.{Run, Rehearse, Check, Rules, Help, Version}
+use Rattle.mv_words.specs.declared.command.Command.TheVariants.{Run, Rehearse, Serve, Check, Rules, Help, Version}
 
 abbrev some_number : ℕ → Option ℕ
 some_number n = Some n
@@ -23,34 +23,45 @@ head_is a b xs ys e = cc
 tail_is : (a b : Text) (xs ys : List Text) → a ∷ xs ≡ b ∷ ys → xs ≡ ys
 tail_is a b xs ys e = cc
 
+abbrev letter : Text → ℕ → ℕ
+letter word n = get_or word n 0
+
+other_word : (a b : Text) (n : ℕ) → (letter a n ≡ letter b n → ⊥) → a ≡ b → ⊥
+other_word a b n differ e = differ (ap (λ (w : Text). letter w n) e)
+
 run_not_rehearse : codes "run" ≡ codes "rehearse" → ⊥
-run_not_rehearse e = cc
+run_not_rehearse = other_word (codes "run") (codes "rehearse") 1 (λ (letters : 117 ≡ 101). omega (arith, letters))
+
+run_not_serve : codes "run" ≡ codes "serve" → ⊥
+run_not_serve = other_word (codes "run") (codes "serve") 0 (λ (letters : 114 ≡ 115). omega (arith, letters))
 
 run_not_check : codes "run" ≡ codes "check" → ⊥
-run_not_check e = cc
+run_not_check = other_word (codes "run") (codes "check") 0 (λ (letters : 114 ≡ 99). omega (arith, letters))
 
 run_not_rules : codes "run" ≡ codes "rules" → ⊥
-run_not_rules e = cc
+run_not_rules = other_word (codes "run") (codes "rules") 2 (λ (letters : 110 ≡ 108). omega (arith, letters))
+
+rehearse_not_serve : codes "rehearse" ≡ codes "serve" → ⊥
+rehearse_not_serve = other_word (codes "rehearse") (codes "serve") 0 (λ (letters : 114 ≡ 115). omega (arith, letters))
 
 rehearse_not_check : codes "rehearse" ≡ codes "check" → ⊥
-rehearse_not_check e = cc
+rehearse_not_check = other_word (codes "rehearse") (codes "check") 0 (λ (letters : 114 ≡ 99). omega (arith, letters))
 
 rehearse_not_rules : codes "rehearse" ≡ codes "rules" → ⊥
-rehearse_not_rules e = cc
+rehearse_not_rules = other_word (codes "rehearse") (codes "rules") 1 (λ (letters : 101 ≡ 117). omega (arith, letters))
 
-first_letters : (a b : ℕ) (xs ys : Text) → a ∷ xs ≡ b ∷ ys → a ≡ b
-first_letters a b xs ys e = cc
+serve_not_check : codes "serve" ≡ codes "check" → ⊥
+serve_not_check = other_word (codes "serve") (codes "check") 0 (λ (letters : 115 ≡ 99). omega (arith, letters))
+
+serve_not_rules : codes "serve" ≡ codes "rules" → ⊥
+serve_not_rules = other_word (codes "serve") (codes "rules") 0 (λ (letters : 115 ≡ 114). omega (arith, letters))
 
 check_not_rules : codes "check" ≡ codes "rules" → ⊥
-check_not_rules e = let letters : 99 ≡ 114 = first_letters 99 114 _ _ e in omega (arith, letters)
+check_not_rules = other_word (codes "check") (codes "rules") 0 (λ (letters : 99 ≡ 114). omega (arith, letters))
 
 one_asked : (word : Text) (rings placed : List Text) (c d : Command) → Asks word rings placed c → Asks word rings placed d → c ≡ d
 one_asked word rings placed (Run old args) (Run old2 args2) first second =
     let e = sym first.2 ∙ second.2 in ap₂ (λ (o : Text) (xs : List Text). Run o xs) (head_is old old2 args args2 e) (tail_is old old2 args args2 e)
-one_asked word rings placed (Run old args) (Rehearse old2 schedule args2 ring) first second = absurd (run_not_rehearse (sym first.0 ∙ second.0))
-one_asked word rings placed (Run old args) (Check path) first second = absurd (run_not_check (sym first.0 ∙ second.0))
-one_asked word rings placed (Run old args) (Rules forward) first second = absurd (run_not_rules (sym first.0 ∙ second.0))
-one_asked word rings placed (Rehearse old schedule args ring) (Run old2 args2) first second = absurd (run_not_rehearse (sym second.0 ∙ first.0))
 one_asked word rings placed (Rehearse old schedule args ring) (Rehearse old2 schedule2 args2 ring2) first second =
     let e = sym first.2 ∙ second.2 in
     let rest = tail_is old old2 (schedule ∷ args) (schedule2 ∷ args2) e in
@@ -58,20 +69,39 @@ one_asked word rings placed (Rehearse old schedule args ring) (Rehearse old2 sch
   where
     rehearses : (old old2 schedule schedule2 : Text) (args args2 : List Text) (ring ring2 : ℕ) → old ≡ old2 → schedule ≡ schedule2 → args ≡ args2 → ring ≡ ring2 → Rehearse old schedule args ring ≡ Rehearse old2 schedule2 args2 ring2
     rehearses old old2 schedule schedule2 args args2 ring ring2 a b c d = rw (a, b, c, d) refl
-one_asked word rings placed (Rehearse old schedule args ring) (Check path) first second = absurd (rehearse_not_check (sym first.0 ∙ second.0))
-one_asked word rings placed (Rehearse old schedule args ring) (Rules forward) first second = absurd (rehearse_not_rules (sym first.0 ∙ second.0))
-one_asked word rings placed (Check path) (Run old2 args2) first second = absurd (run_not_check (sym second.0 ∙ first.0))
-one_asked word rings placed (Check path) (Rehearse old2 schedule args2 ring) first second = absurd (rehearse_not_check (sym second.0 ∙ first.0))
+one_asked word rings placed (Serve old args ring) (Serve old2 args2 ring2) first second =
+    let e = sym first.2 ∙ second.2 in serves old old2 args args2 ring ring2 (head_is old old2 args args2 e) (tail_is old old2 args args2 e) (one_ring rings ring ring2 first.1 second.1)
+  where
+    serves : (old old2 : Text) (args args2 : List Text) (ring ring2 : ℕ) → old ≡ old2 → args ≡ args2 → ring ≡ ring2 → Serve old args ring ≡ Serve old2 args2 ring2
+    serves old old2 args args2 ring ring2 a b c = rw (a, b, c) refl
 one_asked word rings placed (Check path) (Check path2) first second = ap Check (head_is path path2 [] [] (sym first.2 ∙ second.2))
-one_asked word rings placed (Check path) (Rules forward) first second = absurd (check_not_rules (sym first.0 ∙ second.0))
-one_asked word rings placed (Rules forward) (Run old2 args2) first second = absurd (run_not_rules (sym second.0 ∙ first.0))
-one_asked word rings placed (Rules forward) (Rehearse old2 schedule args2 ring) first second = absurd (rehearse_not_rules (sym second.0 ∙ first.0))
-one_asked word rings placed (Rules forward) (Check path) first second = absurd (check_not_rules (sym second.0 ∙ first.0))
 one_asked word rings placed (Rules forward) (Rules forward2) first second = ap Rules (head_is forward forward2 [] [] (sym first.2 ∙ second.2))
+one_asked word rings placed (Run old args) (Rehearse old2 schedule2 args2 ring2) first second = absurd (run_not_rehearse (sym first.0 ∙ second.0))
+one_asked word rings placed (Run old args) (Serve old2 args2 ring2) first second = absurd (run_not_serve (sym first.0 ∙ second.0))
+one_asked word rings placed (Run old args) (Check path2) first second = absurd (run_not_check (sym first.0 ∙ second.0))
+one_asked word rings placed (Run old args) (Rules forward2) first second = absurd (run_not_rules (sym first.0 ∙ second.0))
+one_asked word rings placed (Rehearse old schedule args ring) (Run old2 args2) first second = absurd (run_not_rehearse (sym second.0 ∙ first.0))
+one_asked word rings placed (Rehearse old schedule args ring) (Serve old2 args2 ring2) first second = absurd (rehearse_not_serve (sym first.0 ∙ second.0))
+one_asked word rings placed (Rehearse old schedule args ring) (Check path2) first second = absurd (rehearse_not_check (sym first.0 ∙ second.0))
+one_asked word rings placed (Rehearse old schedule args ring) (Rules forward2) first second = absurd (rehearse_not_rules (sym first.0 ∙ second.0))
+one_asked word rings placed (Serve old args ring) (Run old2 args2) first second = absurd (run_not_serve (sym second.0 ∙ first.0))
+one_asked word rings placed (Serve old args ring) (Rehearse old2 schedule2 args2 ring2) first second = absurd (rehearse_not_serve (sym second.0 ∙ first.0))
+one_asked word rings placed (Serve old args ring) (Check path2) first second = absurd (serve_not_check (sym first.0 ∙ second.0))
+one_asked word rings placed (Serve old args ring) (Rules forward2) first second = absurd (serve_not_rules (sym first.0 ∙ second.0))
+one_asked word rings placed (Check path) (Run old2 args2) first second = absurd (run_not_check (sym second.0 ∙ first.0))
+one_asked word rings placed (Check path) (Rehearse old2 schedule2 args2 ring2) first second = absurd (rehearse_not_check (sym second.0 ∙ first.0))
+one_asked word rings placed (Check path) (Serve old2 args2 ring2) first second = absurd (serve_not_check (sym second.0 ∙ first.0))
+one_asked word rings placed (Check path) (Rules forward2) first second = absurd (check_not_rules (sym first.0 ∙ second.0))
+one_asked word rings placed (Rules forward) (Run old2 args2) first second = absurd (run_not_rules (sym second.0 ∙ first.0))
+one_asked word rings placed (Rules forward) (Rehearse old2 schedule2 args2 ring2) first second = absurd (rehearse_not_rules (sym second.0 ∙ first.0))
+one_asked word rings placed (Rules forward) (Serve old2 args2 ring2) first second = absurd (serve_not_rules (sym second.0 ∙ first.0))
+one_asked word rings placed (Rules forward) (Check path2) first second = absurd (check_not_rules (sym second.0 ∙ first.0))
 one_asked word rings placed (Run old args) Help first second = absurd second
 one_asked word rings placed (Run old args) Version first second = absurd second
 one_asked word rings placed (Rehearse old schedule args ring) Help first second = absurd second
 one_asked word rings placed (Rehearse old schedule args ring) Version first second = absurd second
+one_asked word rings placed (Serve old args ring) Help first second = absurd second
+one_asked word rings placed (Serve old args ring) Version first second = absurd second
 one_asked word rings placed (Check path) Help first second = absurd second
 one_asked word rings placed (Check path) Version first second = absurd second
 one_asked word rings placed (Rules forward) Help first second = absurd second
@@ -109,22 +139,25 @@ help_gives_nothing rings placed gives = let bad : no_parts ≡ Some gives.said =
 command_word : (word : Text) (rings placed : List Text) (c : Command) → Asks word rings placed c → IsCommandWord word
 command_word word rings placed (Run old args) asks = inl asks.0
 command_word word rings placed (Rehearse old schedule args ring) asks = inr (inl asks.0)
-command_word word rings placed (Check path) asks = inr (inr (inl asks.0))
-command_word word rings placed (Rules forward) asks = inr (inr (inr asks.0))
+command_word word rings placed (Serve old args ring) asks = inr (inr (inl asks.0))
+command_word word rings placed (Check path) asks = inr (inr (inr (inl asks.0)))
+command_word word rings placed (Rules forward) asks = inr (inr (inr (inr asks.0)))
 command_word word rings placed Help asks = absurd asks
 command_word word rings placed Version asks = absurd asks
 
 help_no_word : (word : Text) → word ≡ codes "--help" → IsCommandWord word → ⊥
 help_no_word word e (inl is) = let bad : codes "--help" ≡ codes "run" = sym e ∙ is in absurd cc
 help_no_word word e (inr (inl is)) = let bad : codes "--help" ≡ codes "rehearse" = sym e ∙ is in absurd cc
-help_no_word word e (inr (inr (inl is))) = let bad : codes "--help" ≡ codes "check" = sym e ∙ is in absurd cc
-help_no_word word e (inr (inr (inr is))) = let bad : codes "--help" ≡ codes "rules" = sym e ∙ is in absurd cc
+help_no_word word e (inr (inr (inl is))) = let bad : codes "--help" ≡ codes "serve" = sym e ∙ is in absurd cc
+help_no_word word e (inr (inr (inr (inl is)))) = let bad : codes "--help" ≡ codes "check" = sym e ∙ is in absurd cc
+help_no_word word e (inr (inr (inr (inr is)))) = let bad : codes "--help" ≡ codes "rules" = sym e ∙ is in absurd cc
 
 version_no_word : (word : Text) → word ≡ codes "--version" → IsCommandWord word → ⊥
 version_no_word word e (inl is) = let bad : codes "--version" ≡ codes "run" = sym e ∙ is in absurd cc
 version_no_word word e (inr (inl is)) = let bad : codes "--version" ≡ codes "rehearse" = sym e ∙ is in absurd cc
-version_no_word word e (inr (inr (inl is))) = let bad : codes "--version" ≡ codes "check" = sym e ∙ is in absurd cc
-version_no_word word e (inr (inr (inr is))) = let bad : codes "--version" ≡ codes "rules" = sym e ∙ is in absurd cc
+version_no_word word e (inr (inr (inl is))) = let bad : codes "--version" ≡ codes "serve" = sym e ∙ is in absurd cc
+version_no_word word e (inr (inr (inr (inl is)))) = let bad : codes "--version" ≡ codes "check" = sym e ∙ is in absurd cc
+version_no_word word e (inr (inr (inr (inr is)))) = let bad : codes "--version" ≡ codes "rules" = sym e ∙ is in absurd cc
 
 help_asks_nothing : (words : List Text) (c : Command) → Says words Help → IsAsked words c → ⊥
 help_asks_nothing words c (inl is) asked = help_no_word asked.word (head_is _ _ _ _ (sym asked.words_are ∙ is)) (command_word _ _ _ c asked.asks)
@@ -143,37 +176,50 @@ help_no_version words (inr help) version = version_no_word help.0 (head_is _ _ _
 pub one_reading : (words : List Text) (c d : Command) → Says words c → Says words d → c ≡ d
 one_reading words Help Help first second = refl
 one_reading words Help Version first second = absurd (help_no_version words first second)
-one_reading words Help (Run old args) first second = absurd (help_asks_nothing words _ first second)
-one_reading words Help (Rehearse old schedule args ring) first second = absurd (help_asks_nothing words _ first second)
-one_reading words Help (Check path) first second = absurd (help_asks_nothing words _ first second)
-one_reading words Help (Rules forward) first second = absurd (help_asks_nothing words _ first second)
 one_reading words Version Help first second = absurd (help_no_version words second first)
 one_reading words Version Version first second = refl
+one_reading words Help (Run old args) first second = absurd (help_asks_nothing words _ first second)
 one_reading words Version (Run old args) first second = absurd (version_asks_nothing words _ first second)
-one_reading words Version (Rehearse old schedule args ring) first second = absurd (version_asks_nothing words _ first second)
-one_reading words Version (Check path) first second = absurd (version_asks_nothing words _ first second)
-one_reading words Version (Rules forward) first second = absurd (version_asks_nothing words _ first second)
 one_reading words (Run old args) Help first second = absurd (help_asks_nothing words _ second first)
 one_reading words (Run old args) Version first second = absurd (version_asks_nothing words _ second first)
 one_reading words (Run old args) (Run old2 args2) first second = both_asked words _ _ first second
-one_reading words (Run old args) (Rehearse old2 schedule args2 ring) first second = both_asked words _ _ first second
-one_reading words (Run old args) (Check path) first second = both_asked words _ _ first second
-one_reading words (Run old args) (Rules forward) first second = both_asked words _ _ first second
+one_reading words (Run old args) (Rehearse old2 schedule2 args2 ring2) first second = both_asked words _ _ first second
+one_reading words (Run old args) (Serve old2 args2 ring2) first second = both_asked words _ _ first second
+one_reading words (Run old args) (Check path2) first second = both_asked words _ _ first second
+one_reading words (Run old args) (Rules forward2) first second = both_asked words _ _ first second
+one_reading words Help (Rehearse old schedule args ring) first second = absurd (help_asks_nothing words _ first second)
+one_reading words Version (Rehearse old schedule args ring) first second = absurd (version_asks_nothing words _ first second)
 one_reading words (Rehearse old schedule args ring) Help first second = absurd (help_asks_nothing words _ second first)
 one_reading words (Rehearse old schedule args ring) Version first second = absurd (version_asks_nothing words _ second first)
 one_reading words (Rehearse old schedule args ring) (Run old2 args2) first second = both_asked words _ _ first second
 one_reading words (Rehearse old schedule args ring) (Rehearse old2 schedule2 args2 ring2) first second = both_asked words _ _ first second
-one_reading words (Rehearse old schedule args ring) (Check path) first second = both_asked words _ _ first second
-one_reading words (Rehearse old schedule args ring) (Rules forward) first second = both_asked words _ _ first second
+one_reading words (Rehearse old schedule args ring) (Serve old2 args2 ring2) first second = both_asked words _ _ first second
+one_reading words (Rehearse old schedule args ring) (Check path2) first second = both_asked words _ _ first second
+one_reading words (Rehearse old schedule args ring) (Rules forward2) first second = both_asked words _ _ first second
+one_reading words Help (Serve old args ring) first second = absurd (help_asks_nothing words _ first second)
+one_reading words Version (Serve old args ring) first second = absurd (version_asks_nothing words _ first second)
+one_reading words (Serve old args ring) Help first second = absurd (help_asks_nothing words _ second first)
+one_reading words (Serve old args ring) Version first second = absurd (version_asks_nothing words _ second first)
+one_reading words (Serve old args ring) (Run old2 args2) first second = both_asked words _ _ first second
+one_reading words (Serve old args ring) (Rehearse old2 schedule2 args2 ring2) first second = both_asked words _ _ first second
+one_reading words (Serve old args ring) (Serve old2 args2 ring2) first second = both_asked words _ _ first second
+one_reading words (Serve old args ring) (Check path2) first second = both_asked words _ _ first second
+one_reading words (Serve old args ring) (Rules forward2) first second = both_asked words _ _ first second
+one_reading words Help (Check path) first second = absurd (help_asks_nothing words _ first second)
+one_reading words Version (Check path) first second = absurd (version_asks_nothing words _ first second)
 one_reading words (Check path) Help first second = absurd (help_asks_nothing words _ second first)
 one_reading words (Check path) Version first second = absurd (version_asks_nothing words _ second first)
 one_reading words (Check path) (Run old2 args2) first second = both_asked words _ _ first second
 one_reading words (Check path) (Rehearse old2 schedule2 args2 ring2) first second = both_asked words _ _ first second
+one_reading words (Check path) (Serve old2 args2 ring2) first second = both_asked words _ _ first second
 one_reading words (Check path) (Check path2) first second = both_asked words _ _ first second
-one_reading words (Check path) (Rules forward) first second = both_asked words _ _ first second
+one_reading words (Check path) (Rules forward2) first second = both_asked words _ _ first second
+one_reading words Help (Rules forward) first second = absurd (help_asks_nothing words _ first second)
+one_reading words Version (Rules forward) first second = absurd (version_asks_nothing words _ first second)
 one_reading words (Rules forward) Help first second = absurd (help_asks_nothing words _ second first)
 one_reading words (Rules forward) Version first second = absurd (version_asks_nothing words _ second first)
 one_reading words (Rules forward) (Run old2 args2) first second = both_asked words _ _ first second
 one_reading words (Rules forward) (Rehearse old2 schedule2 args2 ring2) first second = both_asked words _ _ first second
-one_reading words (Rules forward) (Check path) first second = both_asked words _ _ first second
+one_reading words (Rules forward) (Serve old2 args2 ring2) first second = both_asked words _ _ first second
+one_reading words (Rules forward) (Check path2) first second = both_asked words _ _ first second
 one_reading words (Rules forward) (Rules forward2) first second = both_asked words _ _ first second

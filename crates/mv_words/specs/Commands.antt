@@ -3,7 +3,7 @@ use Rattle.std.specs.Prelude.{◌≡◌, ◌≤◌, ◌⊎◌, ℕ, List, [], �
 use Rattle.mv_scan.specs.Numbers.{decimal}
 use Rattle.mv_words.specs.Words.{Text, Part, parts, free, values_of, places}
 use Rattle.mv_words.specs.declared.command.Command.{Command}
-use Rattle.mv_words.specs.declared.command.Command.TheVariants.{Run, Rehearse, Check, Rules, Help, Version}
+use Rattle.mv_words.specs.declared.command.Command.TheVariants.{Run, Rehearse, Serve, Check, Rules, Help, Version}
 
 -- the options that there are; where a command has no such option, it stands nowhere
 abbrev pub option_names : List Text
@@ -33,6 +33,7 @@ IsRing (text ∷ other ∷ more) n = ⊥
 abbrev pub Asks : Text → List Text → List Text → Command → Type 0
 Asks word rings placed (Run old args) = (word ≡ codes "run") × (rings ≡ []) × (placed ≡ old ∷ args)
 Asks word rings placed (Rehearse old schedule args ring) = (word ≡ codes "rehearse") × IsRing rings ring × (placed ≡ old ∷ schedule ∷ args)
+Asks word rings placed (Serve old args ring) = (word ≡ codes "serve") × IsRing rings ring × (placed ≡ old ∷ args)
 Asks word rings placed (Check path) = (word ≡ codes "check") × (rings ≡ []) × (placed ≡ path ∷ [])
 Asks word rings placed (Rules forward) = (word ≡ codes "rules") × (rings ≡ []) × (placed ≡ forward ∷ [])
 Asks word rings placed Help = ⊥
@@ -49,7 +50,7 @@ pub record IsAsked (words : List Text) (command : Command) : Type 0 where
   pub asks : Asks word rings placed command
 
 abbrev pub IsCommandWord : Text → Type 0
-IsCommandWord word = (word ≡ codes "run") ⊎ ((word ≡ codes "rehearse") ⊎ ((word ≡ codes "check") ⊎ (word ≡ codes "rules")))
+IsCommandWord word = (word ≡ codes "run") ⊎ ((word ≡ codes "rehearse") ⊎ ((word ≡ codes "serve") ⊎ ((word ≡ codes "check") ⊎ (word ≡ codes "rules"))))
 
 -- the words of each command, the command word first
 abbrev pub Says : List Text → Command → Type 0

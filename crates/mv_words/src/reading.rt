@@ -57,7 +57,7 @@ fn is_command_word(word: &str) -> bool
     ensures yes { IsTrue result → IsCommandWord word.now }
     ensures no { IsCommandWord word.now → IsTrue result }
 {
-    word == "run" || word == "rehearse" || word == "check" || word == "rules"
+    word == "run" || word == "rehearse" || word == "serve" || word == "check" || word == "rules"
 }
 
 /// The forms of words that ask what the program is.
@@ -88,6 +88,9 @@ fn command_of(alloc: Global, word: &str, given: &Given<'_>) -> Result<Command, O
 {
     if word == "rehearse" {
         return rehearsal_of(alloc, given);
+    }
+    if word == "serve" {
+        return service_of(alloc, given);
     }
     if given.ring.is_some() {
         return Err(Or::Fault(BadWords));
@@ -170,6 +173,23 @@ fn rehearsal_of(alloc: Global, given: &Given<'_>) -> Result<Command, Or<BadWords
         args,
         ring,
     })
+}
+
+/// What `serve` asks for.
+fn service_of(alloc: Global, given: &Given<'_>) -> Result<Command, Or<BadWords>>
+    ensures ok { IfOk result (λ command. Asks (codes "serve") (option_to_list (option_map (λ s. s.now) given.now.ring)) (map (λ a. a.now) given.now.places.items) command) }
+    ensures bad { IsErrOf result (or.Fault (record {})) → (command : Asked) → Asks (codes "serve") (option_to_list (option_map (λ s. s.now) given.now.ring)) (map (λ a. a.now) given.now.places.items) command → ⊥ }
+{
+    let places = given.places.as_slice();
+    if places.is_empty() {
+        return Err(Or::Fault(BadWords));
+    }
+    let Some(ring) = ring_of(given.ring) else {
+        return Err(Or::Fault(BadWords));
+    };
+    let old = Bytes::from_slice(alloc, places[0].as_bytes())?;
+    let args = copies_of(alloc, &places[1..])?;
+    Ok(Command::Serve { old, args, ring })
 }
 
 /// The capacity of the feed, where the value of the option is one.

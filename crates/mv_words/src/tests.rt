@@ -47,6 +47,13 @@ fn words_in_the_grammar(rt: HostRuntime) -> Result<(), Fail> {
         rehearsal(alloc, &["rehearse", "--", "-", "--ring", "-"])?,
         (256, 1)
     );
+    let words = texts(alloc, &["serve", "old", "a", "--ring=4"])?;
+    assert!(rt;
+        matches!(
+            read_words(alloc, words.as_slice()),
+            Ok(Command::Serve { ring: 4, .. })
+        )
+    );
     let words = texts(alloc, &["check", "--help"])?;
     assert!(rt; matches!(read_words(alloc, words.as_slice()), Ok(Command::Help)));
     Ok(())
@@ -54,7 +61,7 @@ fn words_in_the_grammar(rt: HostRuntime) -> Result<(), Fail> {
 
 #[test]
 fn words_outside_the_grammar(rt: HostRuntime) -> Result<(), Fail> {
-    let rows: [&[&str]; 12] = [
+    let rows: [&[&str]; 13] = [
         &[],
         &["jump"],
         &["run"],
@@ -62,6 +69,7 @@ fn words_outside_the_grammar(rt: HostRuntime) -> Result<(), Fail> {
         &["run", "old", "-x"],
         &["run", "old", ""],
         &["run", "old", "--ring", "8"],
+        &["serve"],
         &["check", "old", "more"],
         &["rehearse", "old", "plan", "--ring=4", "--ring=4"],
         &["rehearse", "old", "plan", "--ring", "3"],
