@@ -17,7 +17,8 @@ use Rattle.mv_words.specs.declared.command.Command.TheVariants as ask
 use Rattle.mv_commands.specs.Named.{FileIs, FoundAt, GoesOn, IsMissing, StandsAt, Starts, StopsAt, files_of}
 use Rattle.mv_commands.specs.Loading.{Meaning, IsJudged, ending_by}
 use Rattle.mv_words.specs.Commands.{Says, IsRing}
-use Rattle.mv_commands.specs.Causes.{Seen, NoGuest, CauseOf, HasCause, IsBegun, IsFeasible, IsRun}
+use Rattle.mv_words.proofs.OneReading.{one_reading}
+use Rattle.mv_commands.specs.Causes.{Known, IsOnOneThread, IsLegal, RanFor, Seen, NoGuest, CauseOf, HasCause, IsBegun, IsFeasible, IsRun}
 use Rattle.mv_commands.specs.Schedules.{schedule_of}
 use Rattle.mv_commands.specs.declared.ending.ScheduleFault.{ScheduleFault}
 use Rattle.mv_commands.specs.declared.ending.Ending.{Ending}
@@ -102,25 +103,68 @@ schedule_refused old schedule args ring before after log ending told fault is go
     subst (λ (e : Ending). CauseOf (ask.Rehearse old schedule args ring) before after log e) (sym is)
     (stops_at_schedule old schedule args ring before.files _ goes (subst (λ (t : Option FileMap). FileIs t schedule (λ text. schedule_of text ≡ Err fault)) same refused), none)
 
+ring_feasible : (rings : List (List ℕ)) (n : ℕ) → IsRing rings n → (4 ≤ n) × (n ≤ 4096)
+ring_feasible [] n is = (omega (arith, is), omega (arith, is))
+ring_feasible (text ∷ []) n is = (is.low, is.high)
+ring_feasible (text ∷ other ∷ more) n is = absurd is
+
+-- the first file is missing
+pub first_missing : (command : Command) (path : List ℕ) (before after : Seen) (log : Log) (ending : Ending) (faults : ℕ) → slice_get (files_of command) 0 ≡ Some path → ending ≡ ending_is.NoFile path → after.file_faults ≡ faults
+    → IsMissing before.files path ⊎ Rose before.file_faults faults → NoGuest before after log → CauseOf command before after log ending
+first_missing command path before after log ending faults named is now missing none =
+    subst (λ (e : Ending). CauseOf command before after log e) (sym is)
+    (stops_at_first command before.files path _ named (subst (λ (n : ℕ). IsMissing before.files path ⊎ Rose before.file_faults n) (sym now) missing), none)
+
+-- no guest starts of the first file
+pub first_refused : (command : Command) (path : List ℕ) (before after : Seen) (log : Log) (ending : Ending) (finding : Finding) → slice_get (files_of command) 0 ≡ Some path → ending ≡ ending_is.Found path finding
+    → FileIs before.files path (λ text. FoundAt command 0 text finding) → NoGuest before after log → CauseOf command before after log ending
+first_refused command path before after log ending finding named is found none =
+    subst (λ (e : Ending). CauseOf command before after log e) (sym is) (stops_at_first command before.files path _ named found, none)
+
 -- the capacity that the words give is one of a feed
 pub feasible : (words : List (List ℕ)) (command : Command) → Says words command → IsFeasible command
 feasible words (ask.Run old args) says = tt
 feasible words (ask.Rehearse old schedule args ring) says = ring_feasible says.rings ring says.asks.1
-  where
-    ring_feasible : (rings : List (List ℕ)) (n : ℕ) → IsRing rings n → (4 ≤ n) × (n ≤ 4096)
-    ring_feasible [] n is = (omega (arith, is), omega (arith, is))
-    ring_feasible (text ∷ []) n is = (is.low, is.high)
-    ring_feasible (text ∷ other ∷ more) n is = absurd is
+feasible words (ask.Serve old args ring) says = ring_feasible says.rings ring says.asks.1
 feasible words (ask.Check path) says = tt
 feasible words (ask.Rules forward) says = tt
 feasible words ask.Help says = tt
 feasible words ask.Version says = tt
 
 -- the cause of what a command came to is one of its words
-pub cause_by : (words : List (List ℕ)) (command : Command) (before after : Seen) (log : Log) (ending : Ending) → Says words command → CauseOf command before after log ending → HasCause words before after log ending
-cause_by words command before after log ending_is.BadWords says cause = absurd cause
-cause_by words command before after log ending_is.NoMemory says cause = cause
-cause_by words command before after log ending_is.Told says cause = (command, says, cause)
-cause_by words command before after log (ending_is.NoFile path) says cause = (command, says, cause)
-cause_by words command before after log (ending_is.Found path finding) says cause = (command, says, cause)
-cause_by words command before after log (ending_is.Ran h) says cause = (command, says, cause)
+pub cause_by : (Is : Known) (words : List (List ℕ)) (command : Command) (before after : Seen) (log : Log) (ending : Ending) → Is command → Says words command → CauseOf command before after log ending → HasCause Is words before after log ending
+cause_by Is words command before after log ending_is.BadWords is says cause = absurd cause
+cause_by Is words command before after log ending_is.NoMemory is says cause = cause
+cause_by Is words command before after log ending_is.Told is says cause = (command, is, says, cause)
+cause_by Is words command before after log (ending_is.NoFile path) is says cause = (command, is, says, cause)
+cause_by Is words command before after log (ending_is.Found path finding) is says cause = (command, is, says, cause)
+cause_by Is words command before after log (ending_is.Ran h) is says cause = (command, is, says, cause)
+
+-- words that ask for a service ask for nothing on one thread
+pub no_service : (words : List (List ℕ)) (service : Command) → (IsOnOneThread service → ⊥) → Says words service → (command : Command) → IsOnOneThread command → Says words command → ⊥
+no_service words service other says command is asks = other (subst IsOnOneThread (one_reading words command service asks says) is)
+
+pub refused_service : (words : List (List ℕ)) (service : Command) (before after : Seen) (log : Log) (ending : Ending) → (IsOnOneThread service → ⊥) → Says words service → ending ≡ ending_is.BadWords → NoGuest before after log → HasCause IsOnOneThread words before after log ending
+refused_service words service before after log ending other says is none =
+    subst (λ (e : Ending). HasCause IsOnOneThread words before after log e) (sym is) (no_service words service other says, none)
+
+run_legal : (old : List ℕ) (args : List (List ℕ)) (before after : Seen) (began : Began) (log : Log) (h : How) → IsRun old args before after began log h → IsLegal log
+run_legal old args before after began log h ran = inr (ran.legal.first, ap₂ started ran.legal.same_module ran.legal.same_args ∙ ran.legal.started, ran.legal.legal)
+
+ran_legal : (command : Command) (before after : Seen) (log : Log) (h : How) → RanFor command before after log h → IsLegal log
+ran_legal (ask.Run old args) before after log h ran = run_legal old args before after ran.began log h ran.is_run
+ran_legal (ask.Rehearse old schedule args ring) before after log h ran = run_legal old args before after ran.began log h ran.is_run
+ran_legal (ask.Serve old args ring) before after log h ran = run_legal old args before after ran.began log h ran.is_run
+ran_legal (ask.Check path) before after log h ran = absurd ran
+ran_legal (ask.Rules forward) before after log h ran = absurd ran
+ran_legal ask.Help before after log h ran = absurd ran
+ran_legal ask.Version before after log h ran = absurd ran
+
+-- whatever the words come to, the log is legal
+pub legal_by : (Is : Known) (words : List (List ℕ)) (before after : Seen) (log : Log) (ending : Ending) → HasCause Is words before after log ending → IsLegal log
+legal_by Is words before after log ending_is.BadWords cause = inl cause.1.entries
+legal_by Is words before after log ending_is.NoMemory cause = inl cause.entries
+legal_by Is words before after log ending_is.Told cause = inl cause.3.1.entries
+legal_by Is words before after log (ending_is.NoFile path) cause = inl cause.3.1.entries
+legal_by Is words before after log (ending_is.Found path finding) cause = inl cause.3.1.entries
+legal_by Is words before after log (ending_is.Ran h) cause = ran_legal cause.0 before after log h cause.3

@@ -29,7 +29,7 @@ use Rattle.mv_words.proofs.OneReading.{one_reading}
 use Rattle.mv_commands.specs.Lines.{Shows, status_of, finding_status}
 use Rattle.mv_commands.specs.Named.{FileIs, FoundAt, GoesOn, IsMissing, StandsAt, StopsAt, SaysOfModule, SaysOfRules, HasRuleFault, HasRules, IsRefused, IsNoSchedule, IsSchedule, Starts, files_of}
 use Rattle.mv_commands.specs.Schedules.{schedule_of}
-use Rattle.mv_commands.specs.Causes.{Seen, NoGuest, CauseOf, HasCause, HasStatus, IsAbout, RunsGuest, RanFor, IsRun, Otherwise, Fails, IsExact}
+use Rattle.mv_commands.specs.Causes.{Known, Seen, NoGuest, CauseOf, HasCause, HasStatus, IsAbout, RunsGuest, RanFor, IsRun, Otherwise, Fails, IsExact}
 use Rattle.mv_commands.specs.declared.ending.ScheduleFault.{ScheduleFault}
 use Rattle.mv_commands.specs.declared.ending.Finding.{Finding}
 use Rattle.mv_commands.specs.declared.ending.Finding.TheVariants.{Refused, Valid, BadRules, Rules, BadSchedule}
@@ -137,6 +137,7 @@ one_status : (command : Command) (n : ℕ) (text : List ℕ) (e f : Finding) →
 one_status (ask.Run old args) n text e f first second = refused_status (old ∷ args) text e f first second
 one_status (ask.Rehearse old schedule args ring) zero text e f first second = refused_status (old ∷ args) text e f first second
 one_status (ask.Rehearse old schedule args ring) (suc n) text e f first second = schedule_status text e f first second
+one_status (ask.Serve old args ring) n text e f first second = refused_status (old ∷ args) text e f first second
 one_status (ask.Check path) n text e f first second = module_status text e f first second
 one_status (ask.Rules forward) n text e f first second = rules_status text e f first second
 one_status ask.Help n text e f first second = absurd first
@@ -161,6 +162,7 @@ ends_not_on : (command : Command) (n : ℕ) (text : List ℕ) (f : Finding) → 
 ends_not_on (ask.Run old args) n text f first second = refused_not_starts (old ∷ args) text f first second
 ends_not_on (ask.Rehearse old schedule args ring) zero text f first second = refused_not_starts (old ∷ args) text f first second
 ends_not_on (ask.Rehearse old schedule args ring) (suc n) text f first second = schedule_not_bad text f first second
+ends_not_on (ask.Serve old args ring) n text f first second = refused_not_starts (old ∷ args) text f first second
 ends_not_on (ask.Check path) n text f first second = second
 ends_not_on (ask.Rules forward) n text f first second = second
 ends_not_on ask.Help n text f first second = second
@@ -213,7 +215,7 @@ order (suc a) (suc b) = elim (order a b) [
 
 -- ## Every ending against what the words and the files say
 
-module _ (words : List (List ℕ)) (seen after : Seen) (log : Log) (sink : ℕ × ℕ) (status : ℕ) where
+module _ (Is : Known) (words : List (List ℕ)) (seen after : Seen) (log : Log) (sink : ℕ × ℕ) (status : ℕ) where
   memory_is : (status ≡ 9) ⊎ Otherwise sink status → Otherwise sink status
   memory_is (inl nine) = inr nine
   memory_is (inr other) = other
@@ -223,6 +225,7 @@ module _ (words : List (List ℕ)) (seen after : Seen) (log : Log) (sink : ℕ �
   no_files ask.Version n path about named = cc
   no_files (ask.Run old args) n path about named = about
   no_files (ask.Rehearse old schedule args ring) n path about named = about
+  no_files (ask.Serve old args ring) n path about named = about
   no_files (ask.Check p) n path about named = about
   no_files (ask.Rules forward) n path about named = about
 
@@ -231,6 +234,7 @@ module _ (words : List (List ℕ)) (seen after : Seen) (log : Log) (sink : ℕ �
   no_run ask.Version h about ran = ran
   no_run (ask.Run old args) h about ran = about
   no_run (ask.Rehearse old schedule args ring) h about ran = about
+  no_run (ask.Serve old args ring) h about ran = about
   no_run (ask.Check p) h about ran = about
   no_run (ask.Rules forward) h about ran = about
 
@@ -239,6 +243,7 @@ module _ (words : List (List ℕ)) (seen after : Seen) (log : Log) (sink : ℕ �
   runs_not_about ask.Version runs about = runs
   runs_not_about (ask.Run old args) runs about = about
   runs_not_about (ask.Rehearse old schedule args ring) runs about = about
+  runs_not_about (ask.Serve old args ring) runs about = about
   runs_not_about (ask.Check p) runs about = runs
   runs_not_about (ask.Rules forward) runs about = runs
 
@@ -261,6 +266,11 @@ module _ (words : List (List ℕ)) (seen after : Seen) (log : Log) (sink : ℕ �
     where
       no_more : (n : ℕ) (path : List ℕ) → slice_get no_texts n ≡ Some path → ⊥
       no_more n path named = cc
+  ran_goes (ask.Serve old args ring) h ran zero path named = subst (λ (p : List ℕ). FileIs seen.files p (Starts (old ∷ args))) (same_text old path named) (first_goes old args ran.began h ran.is_run)
+  ran_goes (ask.Serve old args ring) h ran (suc n) path named = absurd (no_more n path named)
+    where
+      no_more : (n : ℕ) (path : List ℕ) → slice_get no_texts n ≡ Some path → ⊥
+      no_more n path named = cc
   ran_goes (ask.Check p) h ran n path named = absurd ran
   ran_goes (ask.Rules forward) h ran n path named = absurd ran
   ran_goes ask.Help h ran n path named = absurd ran
@@ -269,6 +279,7 @@ module _ (words : List (List ℕ)) (seen after : Seen) (log : Log) (sink : ℕ �
   ran_ends : (command : Command) (h : How) → RanFor command seen after log h → EndsBy log.entries.list h
   ran_ends (ask.Run old args) h ran = ran.is_run.ends
   ran_ends (ask.Rehearse old schedule args ring) h ran = ran.is_run.ends
+  ran_ends (ask.Serve old args ring) h ran = ran.is_run.ends
   ran_ends (ask.Check p) h ran = absurd ran
   ran_ends (ask.Rules forward) h ran = absurd ran
   ran_ends ask.Help h ran = absurd ran
@@ -276,38 +287,38 @@ module _ (words : List (List ℕ)) (seen after : Seen) (log : Log) (sink : ℕ �
 
   -- ---- the words
 
-  bad_words_is : (ending : Ending) → HasCause words seen after log ending → (status ≡ status_of ending) ⊎ Otherwise sink status → ((command : Command) → Says words command → ⊥) → (status ≡ 2) ⊎ Otherwise sink status
+  bad_words_is : (ending : Ending) → HasCause Is words seen after log ending → (status ≡ status_of ending) ⊎ Otherwise sink status → ((command : Command) → Is command → Says words command → ⊥) → (status ≡ 2) ⊎ Otherwise sink status
   bad_words_is ending_is.BadWords cause shows none = shows
   bad_words_is ending_is.NoMemory cause shows none = inr (memory_is shows)
-  bad_words_is ending_is.Told cause shows none = absurd (none cause.0 cause.1)
-  bad_words_is (ending_is.NoFile path) cause shows none = absurd (none cause.0 cause.1)
-  bad_words_is (ending_is.Found path finding) cause shows none = absurd (none cause.0 cause.1)
-  bad_words_is (ending_is.Ran h) cause shows none = absurd (none cause.0 cause.1)
+  bad_words_is ending_is.Told cause shows none = absurd (none cause.0 cause.1 cause.2)
+  bad_words_is (ending_is.NoFile path) cause shows none = absurd (none cause.0 cause.1 cause.2)
+  bad_words_is (ending_is.Found path finding) cause shows none = absurd (none cause.0 cause.1 cause.2)
+  bad_words_is (ending_is.Ran h) cause shows none = absurd (none cause.0 cause.1 cause.2)
 
   -- the cause is one of this command
-  of_command : (command : Command) (ending : Ending) → Says words command → (found : (c : Command) × Says words c × CauseOf c seen after log ending) → CauseOf command seen after log ending
-  of_command command ending says found = subst (λ (c : Command). CauseOf c seen after log ending) (one_reading words found.0 command found.1 says) found.2
+  of_command : (command : Command) (ending : Ending) → Says words command → (found : (c : Command) × Is c × Says words c × CauseOf c seen after log ending) → CauseOf command seen after log ending
+  of_command command ending says found = subst (λ (c : Command). CauseOf c seen after log ending) (one_reading words found.0 command found.2 says) found.3
 
-  told_is : (command : Command) (ending : Ending) → Says words command → IsAbout command → HasCause words seen after log ending → (status ≡ status_of ending) ⊎ Otherwise sink status → (status ≡ 0) ⊎ Otherwise sink status
-  told_is command ending_is.BadWords says about cause shows = absurd (cause.0 command says)
-  told_is command ending_is.NoMemory says about cause shows = inr (memory_is shows)
-  told_is command ending_is.Told says about cause shows = shows
-  told_is command (ending_is.NoFile path) says about cause shows = let c = of_command command (ending_is.NoFile path) says cause in absurd (no_files command c.0.number path about c.0.named)
-  told_is command (ending_is.Found path finding) says about cause shows = let c = of_command command (ending_is.Found path finding) says cause in absurd (no_files command c.0.number path about c.0.named)
-  told_is command (ending_is.Ran h) says about cause shows = absurd (no_run command h about (of_command command (ending_is.Ran h) says cause))
+  told_is : (command : Command) (ending : Ending) → Is command → Says words command → IsAbout command → HasCause Is words seen after log ending → (status ≡ status_of ending) ⊎ Otherwise sink status → (status ≡ 0) ⊎ Otherwise sink status
+  told_is command ending_is.BadWords is_known says about cause shows = absurd (cause.0 command is_known says)
+  told_is command ending_is.NoMemory is_known says about cause shows = inr (memory_is shows)
+  told_is command ending_is.Told is_known says about cause shows = shows
+  told_is command (ending_is.NoFile path) is_known says about cause shows = let c = of_command command (ending_is.NoFile path) says cause in absurd (no_files command c.0.number path about c.0.named)
+  told_is command (ending_is.Found path finding) is_known says about cause shows = let c = of_command command (ending_is.Found path finding) says cause in absurd (no_files command c.0.number path about c.0.named)
+  told_is command (ending_is.Ran h) is_known says about cause shows = absurd (no_run command h about (of_command command (ending_is.Ran h) says cause))
 
   -- ---- a file is missing
 
   abbrev Gone : FileMap → List ℕ → ℕ → Type 0
   Gone files path n = files path ≡ None
 
-  missing_is : (command : Command) (files : FileMap) (path : List ℕ) (ending : Ending) → Says words command → seen.files ≡ Some files → StopsAt command seen.files path (Gone files path) → HasCause words seen after log ending → (status ≡ status_of ending) ⊎ Otherwise sink status
+  missing_is : (command : Command) (files : FileMap) (path : List ℕ) (ending : Ending) → Is command → Says words command → seen.files ≡ Some files → StopsAt command seen.files path (Gone files path) → HasCause Is words seen after log ending → (status ≡ status_of ending) ⊎ Otherwise sink status
       → (status ≡ 3) ⊎ Otherwise sink status
-  missing_is command files path ending_is.BadWords says told stops cause shows = absurd (cause.0 command says)
-  missing_is command files path ending_is.NoMemory says told stops cause shows = inr (memory_is shows)
-  missing_is command files path ending_is.Told says told stops cause shows = absurd (no_files command stops.number path (of_command command ending_is.Told says cause).0 stops.named)
-  missing_is command files path (ending_is.NoFile other) says told stops cause shows = shows
-  missing_is command files path (ending_is.Found other finding) says told stops cause shows =
+  missing_is command files path ending_is.BadWords is_known says told stops cause shows = absurd (cause.0 command is_known says)
+  missing_is command files path ending_is.NoMemory is_known says told stops cause shows = inr (memory_is shows)
+  missing_is command files path ending_is.Told is_known says told stops cause shows = absurd (no_files command stops.number path (of_command command ending_is.Told says cause).0 stops.named)
+  missing_is command files path (ending_is.NoFile other) is_known says told stops cause shows = shows
+  missing_is command files path (ending_is.Found other finding) is_known says told stops cause shows =
       let c = of_command command (ending_is.Found other finding) says cause in
       absurd (elim (order stops.number c.0.number) [
         | before less ↦ not_gone seen.files files path _ told (c.0.earlier stops.number path less stops.named) stops.stops
@@ -318,7 +329,7 @@ module _ (words : List (List ℕ)) (seen after : Seen) (log : Log) (sink : ℕ �
             let both = both_of seen.files files other _ _ told c.0.stops (stops.earlier c.0.number other less c.0.named) in
             ends_not_on command c.0.number both.0 finding both.1 both.2
       ])
-  missing_is command files path (ending_is.Ran h) says told stops cause shows =
+  missing_is command files path (ending_is.Ran h) is_known says told stops cause shows =
       absurd (not_gone seen.files files path _ told (ran_goes command h (of_command command (ending_is.Ran h) says cause) stops.number path stops.named) stops.stops)
 
   -- ---- a file ends the command
@@ -345,14 +356,14 @@ module _ (words : List (List ℕ)) (seen after : Seen) (log : Log) (sink : ℕ �
     ])
   ]
 
-  found_is : (command : Command) (files : FileMap) (path : List ℕ) (finding : Finding) (ending : Ending) → Says words command → seen.files ≡ Some files → StopsAt command seen.files path (Ends command path finding) → HasCause words seen after log ending
+  found_is : (command : Command) (files : FileMap) (path : List ℕ) (finding : Finding) (ending : Ending) → Is command → Says words command → seen.files ≡ Some files → StopsAt command seen.files path (Ends command path finding) → HasCause Is words seen after log ending
       → (status ≡ status_of ending) ⊎ Otherwise sink status → (status ≡ finding_status finding) ⊎ Fails seen after sink status
-  found_is command files path finding ending_is.BadWords says told stops cause shows = absurd (cause.0 command says)
-  found_is command files path finding ending_is.NoMemory says told stops cause shows = inr (inr (memory_is shows))
-  found_is command files path finding ending_is.Told says told stops cause shows = absurd (no_files command stops.number path (of_command command ending_is.Told says cause).0 stops.named)
-  found_is command files path finding (ending_is.NoFile other) says told stops cause shows =
+  found_is command files path finding ending_is.BadWords is_known says told stops cause shows = absurd (cause.0 command is_known says)
+  found_is command files path finding ending_is.NoMemory is_known says told stops cause shows = inr (inr (memory_is shows))
+  found_is command files path finding ending_is.Told is_known says told stops cause shows = absurd (no_files command stops.number path (of_command command ending_is.Told says cause).0 stops.named)
+  found_is command files path finding (ending_is.NoFile other) is_known says told stops cause shows =
       inr (gone_or_rose command files path other finding 0 0 told stops (of_command command (ending_is.NoFile other) says cause).0 shows)
-  found_is command files path finding (ending_is.Found other found) says told stops cause shows =
+  found_is command files path finding (ending_is.Found other found) is_known says told stops cause shows =
       let c = of_command command (ending_is.Found other found) says cause in
       elim (order stops.number c.0.number) [
         | before less ↦
@@ -368,7 +379,7 @@ module _ (words : List (List ℕ)) (seen after : Seen) (log : Log) (sink : ℕ �
             let both = both_of seen.files files other _ _ told c.0.stops (stops.earlier c.0.number other less c.0.named) in
             absurd (ends_not_on command c.0.number both.0 found both.1 both.2)
       ]
-  found_is command files path finding (ending_is.Ran h) says told stops cause shows =
+  found_is command files path finding (ending_is.Ran h) is_known says told stops cause shows =
       let both = both_of seen.files files path _ _ told stops.stops (ran_goes command h (of_command command (ending_is.Ran h) says cause) stops.number path stops.named) in
       absurd (ends_not_on command stops.number both.0 finding both.1 both.2)
 
@@ -377,31 +388,31 @@ module _ (words : List (List ℕ)) (seen after : Seen) (log : Log) (sink : ℕ �
   abbrev AllGoOn : Command → Type 0
   AllGoOn command = (n : ℕ) (path : List ℕ) → slice_get (files_of command) n ≡ Some path → FileIs seen.files path (GoesOn command n)
 
-  ran_is : (command : Command) (files : FileMap) (ending : Ending) → Says words command → RunsGuest command → seen.files ≡ Some files → AllGoOn command → HasCause words seen after log ending → (status ≡ status_of ending) ⊎ Otherwise sink status
+  ran_is : (command : Command) (files : FileMap) (ending : Ending) → Is command → Says words command → RunsGuest command → seen.files ≡ Some files → AllGoOn command → HasCause Is words seen after log ending → (status ≡ status_of ending) ⊎ Otherwise sink status
       → ((h : How) × EndsBy log.entries.list h × (status ≡ end_status h)) ⊎ Fails seen after sink status
-  ran_is command files ending_is.BadWords says runs told goes cause shows = absurd (cause.0 command says)
-  ran_is command files ending_is.NoMemory says runs told goes cause shows = inr (inr (memory_is shows))
-  ran_is command files ending_is.Told says runs told goes cause shows = absurd (runs_not_about command runs (of_command command ending_is.Told says cause).0)
-  ran_is command files (ending_is.NoFile other) says runs told goes cause shows =
+  ran_is command files ending_is.BadWords is_known says runs told goes cause shows = absurd (cause.0 command is_known says)
+  ran_is command files ending_is.NoMemory is_known says runs told goes cause shows = inr (inr (memory_is shows))
+  ran_is command files ending_is.Told is_known says runs told goes cause shows = absurd (runs_not_about command runs (of_command command ending_is.Told says cause).0)
+  ran_is command files (ending_is.NoFile other) is_known says runs told goes cause shows =
       let c = of_command command (ending_is.NoFile other) says cause in
       elim c.0.stops [
         | inr rose ↦ inr (file_fault rose shows)
         | inl missing ↦ absurd (not_gone seen.files files other _ told (goes c.0.number other c.0.named) (missing files told))
       ]
-  ran_is command files (ending_is.Found other found) says runs told goes cause shows =
+  ran_is command files (ending_is.Found other found) is_known says runs told goes cause shows =
       let c = of_command command (ending_is.Found other found) says cause in
       let both = both_of seen.files files other _ _ told c.0.stops (goes c.0.number other c.0.named) in
       absurd (ends_not_on command c.0.number both.0 found both.1 both.2)
-  ran_is command files (ending_is.Ran h) says runs told goes cause shows =
+  ran_is command files (ending_is.Ran h) is_known says runs told goes cause shows =
       elim shows [ inl is ↦ inl (h, ran_ends command h (of_command command (ending_is.Ran h) says cause), is) | inr other ↦ inr (inr other) ]
 
-pub exact_is : (words : List (List ℕ)) (seen after : Seen) (log : Log) (printed : Option (List ℕ) × Option (List ℕ)) (sink : ℕ × ℕ) (status : ℕ) → HasStatus words seen after log printed sink status → IsExact words seen after log sink status
-exact_is words seen after log printed sink status has =
+pub exact_is : (Is : Known) (words : List (List ℕ)) (seen after : Seen) (log : Log) (printed : Option (List ℕ) × Option (List ℕ)) (sink : ℕ × ℕ) (status : ℕ) → HasStatus Is words seen after log printed sink status → IsExact Is words seen after log sink status
+exact_is Is words seen after log printed sink status has =
     let shows = shown has.0 printed sink status has.2 in
     record {
-      bad_words = bad_words_is words seen after log sink status has.0 has.1 shows;
-      told = λ command says about. told_is words seen after log sink status command has.0 says about has.1 shows;
-      missing = λ command files path says told stops. missing_is words seen after log sink status command files path has.0 says told stops has.1 shows;
-      found = λ command files path finding says told stops. found_is words seen after log sink status command files path finding has.0 says told stops has.1 shows;
-      ran = λ command files says runs told goes. ran_is words seen after log sink status command files has.0 says runs told goes has.1 shows;
+      bad_words = bad_words_is Is words seen after log sink status has.0 has.1 shows;
+      told = λ command is says about. told_is Is words seen after log sink status command has.0 is says about has.1 shows;
+      missing = λ command files path is says told stops. missing_is Is words seen after log sink status command files path has.0 is says told stops has.1 shows;
+      found = λ command files path finding is says told stops. found_is Is words seen after log sink status command files path finding has.0 is says told stops has.1 shows;
+      ran = λ command files is says runs told goes. ran_is Is words seen after log sink status command files has.0 is says runs told goes has.1 shows;
     }

@@ -103,9 +103,17 @@ pub record RanBy (old schedule : List ℕ) (args : List (List ℕ)) (ring : ℕ)
   pub rehearsed : IsRehearsal behaviour began ring beats log
   pub orders : OrdersAnswered began log.entries.list after.coming after.said after.console_faults
 
+-- on two threads, up to its end, with an operator who was asked for orders
+pub record RanServed (old : List ℕ) (args : List (List ℕ)) (before after : Seen) (log : Log) (h : How) : Type 0 where
+  pub began : Began
+  pub is_run : IsRun old args before after began log h
+  pub orders : OrdersAnswered began log.entries.list after.coming after.said after.console_faults
+  pub whole : EndsBy log.entries.list how.Cut → ⊥
+
 abbrev pub RanFor : Command → Seen → Seen → Log → How → Type 0
 RanFor (ask.Run old args) before after log h = RanAlone old args before after log h
 RanFor (ask.Rehearse old schedule args ring) before after log h = RanBy old schedule args ring before after log h
+RanFor (ask.Serve old args ring) before after log h = RanServed old args before after log h
 RanFor (ask.Check path) before after log h = ⊥
 RanFor (ask.Rules forward) before after log h = ⊥
 RanFor ask.Help before after log h = ⊥
@@ -121,12 +129,25 @@ IsAbout command = ⊥
 abbrev pub RunsGuest : Command → Type 0
 RunsGuest (ask.Run old args) = Unit {0}
 RunsGuest (ask.Rehearse old schedule args ring) = Unit {0}
+RunsGuest (ask.Serve old args ring) = Unit {0}
 RunsGuest command = ⊥
 
 -- the capacity that a command gives is one of a feed
 abbrev pub IsFeasible : Command → Type 0
 IsFeasible (ask.Rehearse old schedule args ring) = (4 ≤ ring) × (ring ≤ 4096)
+IsFeasible (ask.Serve old args ring) = (4 ≤ ring) × (ring ≤ 4096)
 IsFeasible command = Unit {0}
+
+-- which commands there are: each, or each that starts no thread
+abbrev pub Known : Type 1
+Known = Command → Type 0
+
+abbrev pub IsAny : Known
+IsAny command = Unit {0}
+
+abbrev pub IsOnOneThread : Known
+IsOnOneThread (ask.Serve old args ring) = ⊥
+IsOnOneThread command = Unit {0}
 
 -- of this command
 abbrev pub CauseOf : Command → Seen → Seen → Log → Ending → Type 0
@@ -139,16 +160,16 @@ CauseOf command before after log (Found path finding) =
     StopsAt command before.files path (λ n. FileIs before.files path (λ text. FoundAt command n text finding)) × NoGuest before after log
 CauseOf command before after log (Ran h) = RanFor command before after log h
 
--- of these words; where memory was wanted before they were read, nobody knows what they say
-abbrev pub HasCause : List (List ℕ) → Seen → Seen → Log → Ending → Type 0
-HasCause words before after log BadWords = ((command : Command) → Says words command → ⊥) × NoGuest before after log
-HasCause words before after log NoMemory = NoGuest before after log
-HasCause words before after log ending = (command : Command) × Says words command × CauseOf command before after log ending
+-- of these words, over the commands that there are; where memory was wanted before they were read, nobody knows what they say
+abbrev pub HasCause : Known → List (List ℕ) → Seen → Seen → Log → Ending → Type 0
+HasCause Is words before after log BadWords = ((command : Command) → Is command → Says words command → ⊥) × NoGuest before after log
+HasCause Is words before after log NoMemory = NoGuest before after log
+HasCause Is words before after log ending = (command : Command) × Is command × Says words command × CauseOf command before after log ending
 
 -- the status: an ending has its cause, and shows
-abbrev pub HasStatus : List (List ℕ) → Seen → Seen → Log → Option (List ℕ) × Option (List ℕ) → ℕ × ℕ → ℕ → Type 0
-HasStatus words before after log printed sink_faults status =
-    (ending : Ending) × HasCause words before after log ending × Shows ending printed sink_faults status
+abbrev pub HasStatus : Known → List (List ℕ) → Seen → Seen → Log → Option (List ℕ) × Option (List ℕ) → ℕ × ℕ → ℕ → Type 0
+HasStatus Is words before after log printed sink_faults status =
+    (ending : Ending) × HasCause Is words before after log ending × Shows ending printed sink_faults status
 
 -- ## The other way round
 
@@ -161,15 +182,15 @@ abbrev pub Fails : Seen → Seen → ℕ × ℕ → ℕ → Type 0
 Fails before after sink_faults status = ((status ≡ 3) × Rose before.file_faults after.file_faults) ⊎ Otherwise sink_faults status
 
 -- Which status comes, by what the words and the told files are, unless something fails or memory is wanted.
-pub record IsExact (words : List (List ℕ)) (before after : Seen) (log : Log) (sink_faults : ℕ × ℕ) (status : ℕ) : Type 0 where
-  pub bad_words : ((command : Command) → Says words command → ⊥) → (status ≡ 2) ⊎ Otherwise sink_faults status
-  pub told : (command : Command) → Says words command → IsAbout command → (status ≡ 0) ⊎ Otherwise sink_faults status
-  pub missing : (command : Command) (files : FileMap) (path : List ℕ) → Says words command → before.files ≡ Some files →
+pub record IsExact (Is : Known) (words : List (List ℕ)) (before after : Seen) (log : Log) (sink_faults : ℕ × ℕ) (status : ℕ) : Type 0 where
+  pub bad_words : ((command : Command) → Is command → Says words command → ⊥) → (status ≡ 2) ⊎ Otherwise sink_faults status
+  pub told : (command : Command) → Is command → Says words command → IsAbout command → (status ≡ 0) ⊎ Otherwise sink_faults status
+  pub missing : (command : Command) (files : FileMap) (path : List ℕ) → Is command → Says words command → before.files ≡ Some files →
       StopsAt command before.files path (λ n. files path ≡ None) → (status ≡ 3) ⊎ Otherwise sink_faults status
-  pub found : (command : Command) (files : FileMap) (path : List ℕ) (finding : Finding) → Says words command → before.files ≡ Some files →
+  pub found : (command : Command) (files : FileMap) (path : List ℕ) (finding : Finding) → Is command → Says words command → before.files ≡ Some files →
       StopsAt command before.files path (λ n. FileIs before.files path (λ text. FoundAt command n text finding)) →
       (status ≡ finding_status finding) ⊎ Fails before after sink_faults status
-  pub ran : (command : Command) (files : FileMap) → Says words command → RunsGuest command → before.files ≡ Some files →
+  pub ran : (command : Command) (files : FileMap) → Is command → Says words command → RunsGuest command → before.files ≡ Some files →
       ((n : ℕ) (path : List ℕ) → slice_get (files_of command) n ≡ Some path → FileIs before.files path (GoesOn command n)) →
       ((h : How) × EndsBy log.entries.list h × (status ≡ end_status h)) ⊎ Fails before after sink_faults status
 

@@ -78,6 +78,7 @@ IsSchedule text = (beats : List Beat) × (schedule_of text ≡ Ok beats)
 abbrev pub files_of : Command → List (List ℕ)
 files_of (ask.Run old args) = old ∷ []
 files_of (ask.Rehearse old schedule args ring) = old ∷ schedule ∷ []
+files_of (ask.Serve old args ring) = old ∷ []
 files_of (ask.Check path) = path ∷ []
 files_of (ask.Rules forward) = forward ∷ []
 files_of ask.Help = []
@@ -88,6 +89,7 @@ abbrev pub FoundAt : Command → ℕ → List ℕ → Finding → Type 0
 FoundAt (ask.Run old args) n text finding = IsRefused (old ∷ args) text finding
 FoundAt (ask.Rehearse old schedule args ring) zero text finding = IsRefused (old ∷ args) text finding
 FoundAt (ask.Rehearse old schedule args ring) (suc n) text finding = IsNoSchedule text finding
+FoundAt (ask.Serve old args ring) n text finding = IsRefused (old ∷ args) text finding
 FoundAt (ask.Check path) n text finding = SaysOfModule text finding
 FoundAt (ask.Rules forward) n text finding = SaysOfRules text finding
 FoundAt ask.Help n text finding = ⊥
@@ -98,6 +100,7 @@ abbrev pub GoesOn : Command → ℕ → List ℕ → Type 0
 GoesOn (ask.Run old args) n text = Starts (old ∷ args) text
 GoesOn (ask.Rehearse old schedule args ring) zero text = Starts (old ∷ args) text
 GoesOn (ask.Rehearse old schedule args ring) (suc n) text = IsSchedule text
+GoesOn (ask.Serve old args ring) n text = Starts (old ∷ args) text
 GoesOn (ask.Check path) n text = ⊥
 GoesOn (ask.Rules forward) n text = ⊥
 GoesOn ask.Help n text = ⊥

@@ -1,12 +1,12 @@
 //! What each command does, up to the line that it prints.
-ghost use Rattle.std.specs.Prelude.{◌≡◌, ◌≤◌, []};
+ghost use Rattle.std.specs.Prelude.{◌≡◌, ◌≤◌, [], IsTrue, false};
 ghost use Rattle.mv_core.specs.Found.{AreFilesKept};
 ghost use Rattle.mv_core.specs.Sound.{IsNewRun};
 ghost use Rattle.mv_rehearse.specs.Runs.{DidCalls, HasEnded, IsLegalRun, OrdersAnswered, began_with};
 ghost use Rattle.mv_history.specs.Ends.{EndsBy};
 ghost use Rattle.mv_history.specs.declared.log.How.{How as hows};
 ghost use Rattle.mv_words.specs.declared.command.Command.TheVariants as ask;
-ghost use Rattle.mv_commands.specs.Causes.{CauseOf, IsFeasible, IsRehearsal, seen_of};
+ghost use Rattle.mv_commands.specs.Causes.{CauseOf, IsFeasible, IsOnOneThread, IsRehearsal, seen_of};
 ghost use Rattle.mv_commands.specs.Loading.{ending_by};
 
 use crate::ending::{Ending, Finding};
@@ -14,12 +14,15 @@ use crate::judging::{Judged, module_at, rules_at};
 use crate::loading::{Loaded, Planned, guest_at, schedule_at};
 use mv_calls::{Bytes, Texts};
 use mv_history::{Entry, How, Log, Mark};
-use mv_outside::{Console, Files, Kernel};
+use mv_host::serve;
+use mv_outside::{Console, Files, Gate, Kernel};
 use mv_rehearse::{Beat, Outcome, alone, rehearse};
 use mv_transform::Guest;
 use mv_version::Version;
 use mv_words::Command;
 use std::alloc::Global;
+use std::sync::Wait;
+use std::thread::Threads;
 
 /// What a command came to, with the objects that it was given.
 #[derive(Drop)]
@@ -187,6 +190,52 @@ fn rehearse_asked<K: Kernel, C: Console, F: Files>(
     }
 }
 
+/// `serve OLD [ARG ..] [--ring N]`: runs a guest on two threads to its end, and asks the operator for orders.
+pub fn serve_asked<
+    R: Threads + Wait + Sync,
+    K: Kernel + Send,
+    C: Console + Send,
+    F: Files + Send,
+    G: Gate + Sync,
+>(
+    rt: &R,
+    alloc: Global,
+    old: Bytes,
+    args: &Texts,
+    ring: u32,
+    kernel: K,
+    console: C,
+    mut files: F,
+    gate: &G,
+) -> Came<K, C, F>
+    requires ring { (4 ≤ ring) × (ring ≤ 4096) }
+    ensures { CauseOf (ask.Serve old args.now ring) (seen_of K.done K.faults C.coming C.said C.faults F.content F.faults kernel console files) (seen_of K.done K.faults C.coming C.said C.faults F.content F.faults result.kernel result.console result.files) result.log result.ending }
+{
+    match guest_at(alloc, &old, args, &mut files) {
+        Loaded::NoFile => not_run(alloc, Ending::NoFile { path: old }, kernel, console, files),
+        Loaded::NoMemory => not_run(alloc, Ending::NoMemory, kernel, console, files),
+        Loaded::Refused(fault) => {
+            let finding = Finding::Refused(fault);
+            let ending = Ending::Found { path: old, finding };
+            not_run(alloc, ending, kernel, console, files)
+        }
+        Loaded::Starts { guest, log } => {
+            let capacity = ring as usize;
+            let outcome = serve::<R, Guest, K, C, F, G>(
+                rt, alloc, guest, log, kernel, console, files, capacity, gate,
+            );
+            let how = how_of(&outcome.log);
+            Came {
+                ending: Ending::Ran(how),
+                kernel: outcome.kernel,
+                console: outcome.console,
+                files: outcome.files,
+                log: outcome.log,
+            }
+        }
+    }
+}
+
 /// What a file was found to be.
 fn ending_of(path: Bytes, judged: Judged) -> Ending
     ensures { result ≡ ending_by path judged }
@@ -198,7 +247,15 @@ fn ending_of(path: Bytes, judged: Judged) -> Ending
     }
 }
 
-/// Does what a command line asks for.
+/// Whether a command starts threads.
+pub fn is_service(command: &Command) -> bool
+    ensures yes { IsTrue result → IsOnOneThread command.now → ⊥ }
+    ensures no { result ≡ false → IsOnOneThread command.now }
+{
+    matches!(command, Command::Serve { .. })
+}
+
+/// Does what a command line asks for, on one thread.
 pub fn did<K: Kernel, C: Console, F: Files>(
     alloc: Global,
     command: Command,
@@ -206,7 +263,8 @@ pub fn did<K: Kernel, C: Console, F: Files>(
     console: C,
     mut files: F,
 ) -> Came<K, C, F>
-    requires { IsFeasible command }
+    requires feasible { IsFeasible command }
+    requires one_thread { IsOnOneThread command }
     ensures { CauseOf command (seen_of K.done K.faults C.coming C.said C.faults F.content F.faults kernel console files) (seen_of K.done K.faults C.coming C.said C.faults F.content F.faults result.kernel result.console result.files) result.log result.ending }
 {
     match command {
@@ -217,6 +275,7 @@ pub fn did<K: Kernel, C: Console, F: Files>(
             args,
             ring,
         } => rehearse_asked(alloc, old, schedule, &args, ring, kernel, console, files),
+        Command::Serve { .. } => unreachable!(),
         Command::Check { path } => {
             let judged = module_at(alloc, &path, &mut files);
             not_run(alloc, ending_of(path, judged), kernel, console, files)
@@ -226,5 +285,32 @@ pub fn did<K: Kernel, C: Console, F: Files>(
             not_run(alloc, ending_of(forward, judged), kernel, console, files)
         }
         Command::Help | Command::Version => { not_run(alloc, Ending::Told, kernel, console, files) }
+    }
+}
+
+/// Does what a command line asks for.
+pub fn did_any<
+    R: Threads + Wait + Sync,
+    K: Kernel + Send,
+    C: Console + Send,
+    F: Files + Send,
+    G: Gate + Sync,
+>(
+    rt: &R,
+    alloc: Global,
+    command: Command,
+    kernel: K,
+    console: C,
+    files: F,
+    gate: &G,
+) -> Came<K, C, F>
+    requires { IsFeasible command }
+    ensures { CauseOf command (seen_of K.done K.faults C.coming C.said C.faults F.content F.faults kernel console files) (seen_of K.done K.faults C.coming C.said C.faults F.content F.faults result.kernel result.console result.files) result.log result.ending }
+{
+    match command {
+        Command::Serve { old, args, ring } => {
+            serve_asked(rt, alloc, old, &args, ring, kernel, console, files, gate)
+        }
+        other => did(alloc, other, kernel, console, files),
     }
 }

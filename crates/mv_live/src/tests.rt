@@ -350,7 +350,7 @@ fn hello_is_written_as_it_is_read(rt: HostRuntime) -> Result<(), Fail> {
 #[test]
 fn words_and_files_are_refused(rt: HostRuntime) -> Result<(), Fail> {
     let bad = b"mv: bad words\n".as_slice();
-    let rows: [(&[&str], u8, &[u8]); 12] = [
+    let rows: [(&[&str], u8, &[u8]); 13] = [
         (&["run", "nofile"], 3, b"mv: file nofile\n"),
         (&["check", "nofile"], 3, b"mv: file nofile\n"),
         (&["rehearse", "hello", "nofile"], 3, b"mv: file nofile\n"),
@@ -362,6 +362,8 @@ fn words_and_files_are_refused(rt: HostRuntime) -> Result<(), Fail> {
         (&["run", "hello", "-x"], 2, bad),
         (&["check", "hello", "more"], 2, bad),
         (&["rehearse", "hello", "plan", "--ring", "3"], 2, bad),
+        // Without threads there is no such command.
+        (&["serve", "hello"], 2, bad),
         (&["jump"], 2, bad),
     ];
     let empty = b"\0asm\x01\0\0\0".as_slice();
@@ -443,33 +445,55 @@ fn updates_are_rehearsed(rt: HostRuntime) -> Result<(), Fail> {
     Ok(())
 }
 
-/// The status of the program on `run hello`.
-fn status_of_program<R: Threads + Wait + Sync>(
+/// What the program showed on these words, with two threads where it takes them.
+fn of_program<R: Threads + Wait + Sync>(
     rt: &R,
     alloc: Global,
+    asked: Asked<'_>,
     files: MemFiles,
-    mut sink: VecSink,
-) -> Result<u8, Fail> {
-    let said = texts(alloc, &["run", "hello"])?;
+) -> Result<Shown, Fail> {
+    let said = texts(alloc, asked.words)?;
+    let kernel = kernel(alloc, asked.perform)?;
+    let console = console(alloc, asked.orders)?;
     let gate = FreeGate::new();
+    let mut sink = VecSink::new(alloc, Vec::new(alloc));
     let came = program(
         rt,
         alloc,
         said.as_slice(),
-        kernel(alloc, None)?,
-        console(alloc, &[])?,
+        kernel,
+        console,
         files,
         &gate,
         &mut sink,
     );
-    Ok(came.status)
+    Ok(Shown {
+        status: came.status,
+        line: Vec::from_slice(alloc, sink.bytes())?,
+        log: letters(alloc, came.log.entries.slice())?,
+        done: came.kernel.done().len(),
+        says_hi: says_hi(came.kernel.done()),
+    })
 }
 
 #[test]
-fn the_program_runs_the_words(rt: HostRuntime) -> Result<(), Fail> {
-    let files = files(&rt, rt.alloc(), &[("hello", HELLO)], None)?;
-    let sink = VecSink::new(rt.alloc(), Vec::new(rt.alloc()));
-    assert_eq!(rt; status_of_program(&rt, rt.alloc(), files, sink)?, 0);
+fn the_program_runs_and_serves(rt: HostRuntime) -> Result<(), Fail> {
+    let alloc = rt.alloc();
+    let named = [("hello", HELLO.as_slice())];
+    let row = of_program(
+        &rt,
+        alloc,
+        words(&["run", "hello"]),
+        files(&rt, alloc, &named, None)?,
+    )?;
+    assert!(rt; row.status == 0 && row.log.as_slice() == b"CE".as_slice());
+    // The update's follower runs beside the leader, in another thread.
+    let named = [("old", VERSION.as_slice()), ("new", VERSION.as_slice())];
+    let mut asked = words(&["serve", "old", "--ring", "16"]);
+    let orders = [(0, "update new none none")];
+    asked.orders = &orders;
+    let row = of_program(&rt, alloc, asked, files(&rt, alloc, &named, None)?)?;
+    assert!(rt; row.status == 0 && row.log.as_slice() == b"OFPCPE".as_slice() && row.says_hi);
     Ok(())
 }
 

@@ -18,7 +18,11 @@ pub enum Command {
         ring: u32,
     },
     /// `serve OLD [ARG ..] [--ring N]`; `ring` is 4 to 4,096.
-    Serve { old: Bytes, args: Texts, ring: u32 },
+    Serve {
+        old: Bytes,
+        args: Texts,
+        ring: u32,
+    },
     /// `check MODULE`.
     Check {
         path: Bytes,
