@@ -20,6 +20,7 @@ const NO_MEMORY: u8 = 9;
 /// How the program is called.
 const HELP: &[u8] = b"mv run OLD [ARG ..]\n\
 mv rehearse OLD SCHEDULE [ARG ..] [--ring N]\n\
+mv serve OLD [ARG ..] [--ring N]\n\
 mv check MODULE\n\
 mv rules FWD\n";
 
