@@ -13,7 +13,14 @@ use Rattle.mv_record.specs.declared.fault.BodyFault.{BodyFault}
 use Rattle.mv_record.specs.declared.fault.RecordFault.{RecordFault}
 use Rattle.mv_record.specs.declared.fault.RecordKind.TheVariants.{Magic, Limit}
 use Rattle.mv_record.specs.Spelling.{byte_list, list_text, body_text, entry_text, file_text}
-use Rattle.mv_record.specs.Fitting.{IsSmall, FitsList, FitsEntry, FitsFile, IsFile}
+use Rattle.mv_history.specs.declared.log.Entry.TheVariants as entry
+use Rattle.mv_history.specs.declared.log.Mark.{Mark}
+use Rattle.mv_history.specs.declared.log.Mark.TheVariants as mark
+use Rattle.mv_history.specs.declared.log.Cause.{Cause}
+use Rattle.mv_history.specs.declared.log.Cause.TheVariants as cause
+use Rattle.mv_version.specs.declared.event.Event.{Event}
+use Rattle.mv_version.specs.declared.event.Event.TheVariants as event
+use Rattle.mv_record.specs.Fitting.{IsTold, IsToldCause, IsToldMark, IsToldEntry, FitsGot, FitsCause, FitsMark, FitsBody, IsSmall, FitsList, FitsEntry, FitsFile, IsFile}
 use Rattle.mv_record.specs.Reading.{◌>>=◌, Gives, byte_list_at, list_at, whole_body}
 use Rattle.mv_record.specs.File.{unless_cut, record_at, entries_at, after_magic, placed, fault, contents_of, log_of, file_limit}
 use Rattle.mv_record.proofs.Rows.{IsBytes, IsRow, rest_bytes, byte_list_row, byte_list_again, list_row, list_again}
@@ -170,3 +177,44 @@ pub one_log : (bytes : List ℕ) (args others : List (List ℕ)) (entries more :
 one_log bytes args others entries more file other =
     let same : (args, entries) ≡ (others, more) = same_ok (args, entries) (others, more) (sym (file_again bytes args entries file) ∙ file_again bytes others more other) in
     (ap (λ (x : List (List ℕ) × List Entry). x.0) same, ap (λ (x : List (List ℕ) × List Entry). x.1) same)
+
+-- ---- what fits tells another call or an end at each Mismatch
+
+told : (got : Event) → FitsGot got → IsTold got
+told (event.Calls call) fits = tt
+told event.Point fits = absurd fits
+told (event.Ends code) fits = tt
+told (event.Traps trap) fits = absurd fits
+
+told_cause : (c : Cause) → FitsCause c → IsToldCause c
+told_cause (cause.Trap k trap) fits = tt
+told_cause (cause.Mismatch k want got) fits = told got fits.2
+told_cause (cause.Refused fault) fits = tt
+told_cause (cause.Rules side fault) fits = tt
+told_cause (cause.Order n) fits = tt
+told_cause cause.Memory fits = tt
+
+told_mark : (m : Mark) → FitsMark m → IsToldMark m
+told_mark (mark.Fork update) fits = tt
+told_mark (mark.NoCopy update) fits = tt
+told_mark (mark.Hand why) fits = tt
+told_mark mark.Promote fits = tt
+told_mark mark.Over fits = tt
+told_mark mark.Back fits = tt
+told_mark mark.Finish fits = tt
+told_mark (mark.Discard cause) fits = told_cause cause fits
+told_mark (mark.Dropped cause) fits = told_cause cause fits
+told_mark (mark.End how) fits = tt
+
+told_entry : (e : Entry) → FitsBody e → IsToldEntry e
+told_entry (entry.Call item) fits = tt
+told_entry entry.Point fits = tt
+told_entry (entry.Order text reply) fits = tt
+told_entry (entry.Mark mark) fits = told_mark mark fits
+
+told_each : (entries : List Entry) → AllByRecursion FitsEntry entries → AllByRecursion IsToldEntry entries
+told_each [] fits = tt
+told_each (e ∷ es) fits = (told_entry e fits.0.0, told_each es fits.1)
+
+pub can_be_written : (bytes : List ℕ) (args : List (List ℕ)) (entries : List Entry) → IsFile bytes args entries → AllByRecursion IsToldEntry entries
+can_be_written bytes args entries file = told_each entries file.fits.each

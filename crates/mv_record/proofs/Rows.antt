@@ -10,7 +10,7 @@ use Rattle.byteorder.specs.Numbers.{little_number-reads_back, little_from-lt, le
 use Rattle.mv_record.specs.declared.fault.BodyFault.{BodyFault}
 use Rattle.mv_record.specs.declared.fault.BodyFault.TheVariants.{Passes}
 use Rattle.mv_record.specs.Spelling.{byte, byte_list, list_text}
-use Rattle.mv_record.specs.Fitting.{Any, IsU8, IsU16, IsU32, IsU64, IsSmall, FitsList}
+use Rattle.mv_record.specs.Fitting.{IsU8, IsU16, IsU32, IsU64, IsSmall, FitsList}
 use Rattle.mv_record.specs.Reading.{◌>>=◌, ◌⟫◌, Reader, plain_at, number_at, byte_list_at, many_at, list_at, Table, by_code, tagged_at}
 
 abbrev pub IsBytes : List ℕ → Type 0

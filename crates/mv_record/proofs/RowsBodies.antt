@@ -1,6 +1,5 @@
 -- Bodies: each row is read as it is spelled, and read again.
-use Rattle.std.proofs.Common.{◌≡◌, ℕ, ◌^◌, ◌<◌, Bool, true, false, cond, eqb, List, [], ◌∷◌, ◌++◌, length, Ok, Err, refl, sym, ap, subst, ◌∙◌, append_assoc, arith}
-use Rattle.byteorder.specs.Endian.{little_bytes}
+use Rattle.std.proofs.Common.{◌≡◌, ℕ, Bool, true, false, cond, eqb, List, [], ◌∷◌, ◌++◌, length, Ok, Err, refl, sym, ap, subst, ◌∙◌, append_assoc, arith}
 use Rattle.mv_calls.specs.declared.calls.Call.{Call}
 use Rattle.mv_calls.specs.declared.calls.Reply.{Reply}
 use Rattle.mv_history.specs.declared.log.Entry.TheVariants as entry
@@ -12,7 +11,6 @@ use Rattle.mv_record.proofs.Rows.{IsBytes, IsRow, IsAgain, Takes, bind_ok, bind_
 use Rattle.mv_record.proofs.RowsCalls.{call_row, call_again, reply_row, reply_again}
 use Rattle.mv_record.proofs.RowsOrders.{answer_row, answer_again}
 use Rattle.mv_record.proofs.RowsMarks.{mark_row, mark_again}
-use Rattle.std.proofs.Common.{IsTrue}
 use Rattle.std.proofs.lemmas.Bool.{eqb-true}
 use Rattle.std.proofs.lemmas.List.{append-nil, nil_from_length}
 use Rattle.mv_calls.specs.Suits.{suits_of}

@@ -1,12 +1,12 @@
 -- Calls and replies: each row is read as it is spelled, and read again.
-use Rattle.std.proofs.Common.{◌≡◌, ℕ, ◌^◌, ◌<◌, Bool, true, false, cond, eqb, List, [], ◌∷◌, ◌++◌, length, Ok, Err, refl, sym, ap, subst, ◌∙◌, append_assoc, arith}
+use Rattle.std.proofs.Common.{[], ◌∷◌, ◌++◌, refl, ◌∙◌, append_assoc, arith}
 use Rattle.byteorder.specs.Endian.{little_bytes}
 use Rattle.mv_calls.specs.declared.subs.Sub.TheVariants as sub
 use Rattle.mv_calls.specs.declared.calls.Call.TheVariants as call
 use Rattle.mv_calls.specs.declared.calls.Reply.TheVariants as reply
 use Rattle.mv_record.specs.Spelling.{byte, byte_list, call_text, happened_text, list_text, reply_text, sub_text}
 use Rattle.mv_record.specs.Fitting.{FitsCall, FitsHappened, FitsList, FitsReply, FitsSub, IsSmall, IsU16, IsU32, IsU64, IsU8}
-use Rattle.mv_record.specs.Reading.{◌>>=◌, ◌⟫◌, accept_call_at, byte_list_at, bytes_reply_at, call_at, call_table, clock_call_at, clock_sub_at, close_call_at, count_reply_at, errno_reply_at, fd_reply_at, fd_stat_call_at, happened_at, list_at, made_happened, number_at, plain_at, poll_call_at, random_call_at, read_call_at, read_sub_at, ready_reply_at, reply_at, reply_table, shutdown_call_at, stat_reply_at, sub_at, sub_table, time_reply_at, write_call_at, write_sub_at}
+use Rattle.mv_record.specs.Reading.{◌⟫◌, accept_call_at, byte_list_at, bytes_reply_at, call_at, call_table, clock_call_at, clock_sub_at, close_call_at, count_reply_at, errno_reply_at, fd_reply_at, fd_stat_call_at, happened_at, list_at, made_happened, number_at, plain_at, poll_call_at, random_call_at, read_call_at, read_sub_at, ready_reply_at, reply_at, reply_table, shutdown_call_at, stat_reply_at, sub_at, sub_table, time_reply_at, write_call_at, write_sub_at}
 use Rattle.mv_record.proofs.Rows.{IsRow, IsAgain, row2, row4, row8, byte_row, u16_again, u32_again, u64_again, byte_again, byte_list_row, byte_list_again, field_row, plain_row, then_again, ends_again, list_row, list_again, tagged_row, tagged_again}
 
 -- ---- a subscription

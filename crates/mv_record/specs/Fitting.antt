@@ -1,6 +1,6 @@
 -- Which logs have a file: each number is one of its type, and each length and count that is written as a u32 fits one.
 use Rattle.std.specs.Prelude.{◌≡◌, ℕ, ◌<◌, ◌^◌, List, length, IsTrue}
-use Rattle.std.specs.List.{AllByRecursion, All}
+use Rattle.std.specs.List.{AllByRecursion}
 use Rattle.mv_calls.specs.Suits.{suits_of}
 use Rattle.mv_calls.specs.declared.subs.Sub.{Sub}
 use Rattle.mv_calls.specs.declared.subs.Sub.TheVariants as sub

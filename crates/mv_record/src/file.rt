@@ -13,8 +13,6 @@ use mv_calls::{Bytes, Or, Texts};
 use mv_history::{Entries, Entry};
 use std::alloc::Global;
 
-
-
 /// The most bytes of a file.
 const FILE_LIMIT: usize = 536_870_912;
 
@@ -139,7 +137,7 @@ fn contents(alloc: Global, bytes: &[u8]) -> Result<(Texts, Entries), Or<RecordFa
 /// The arguments and entries of which this is the file, or its first fault, from the left (docs/FORMATS.md, "Log file").
 /// Where memory is wanted, nothing is said of the file.
 pub fn read_log(alloc: Global, bytes: &[u8]) -> Result<(Texts, Entries), Or<RecordFault>>
- ensures found { IfOk result (λ x. IsFile bytes.now x.0 x.1.list) }
+    ensures found { IfOk result (λ x. IsFile bytes.now x.0 x.1.list) }
     ensures only { (args : List (List ℕ)) (entries : List Entry) → IsFile bytes.now args entries → length bytes.now ≤ file_limit
         → GivesLog result (Ok (args, entries)) }
     ensures exact { GivesLog result (log_of bytes.now) }

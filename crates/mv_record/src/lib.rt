@@ -23,5 +23,5 @@ mod writing_orders;
 
 pub use fault::{RecordFault, RecordKind};
 pub use file::read_log;
-pub use laws::{a_file_has_one_log, a_log_has_one_file};
+pub use laws::{a_file_can_be_written_again, a_file_has_one_log, a_log_has_one_file};
 pub use writing::write_log;

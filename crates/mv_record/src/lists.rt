@@ -72,4 +72,3 @@ fn many_happenings(alloc: Global, count: u32, bytes: &[u8]) -> Field<'_, Vec<Hap
     }
     Ok((values, rest))
 }
-

@@ -129,4 +129,3 @@ fn put_each_happenings(out: &mut Vec<u8>, values: &[Happened]) -> Result<(), Out
     }
     Ok(())
 }
-

@@ -136,7 +136,15 @@ fn valid_fault_of(bytes: &[u8]) -> Field<'_, ValidFault>
     let (item, rest) = u32_at(rest)?;
     let (at, rest) = u32_at(rest)?;
     let (kind, rest) = valid_kind_of(rest)?;
-    Ok((ValidFault { part, item, at, kind }, rest))
+    Ok((
+        ValidFault {
+            part,
+            item,
+            at,
+            kind,
+        },
+        rest,
+    ))
 }
 
 #[tactic(auto, unfolding(crate::specs::Reading::unknown_import_start_fault_at))]
@@ -266,4 +274,3 @@ pub(crate) fn born_fault_of(bytes: &[u8]) -> Field<'_, BornFault>
         Err(Or::Fault(BodyFault::Code(bytes.len())))
     }
 }
-

@@ -5,8 +5,8 @@ ghost use Rattle.mv_record.specs.Reading.{GivesField, Gives, body_at, call_body_
 use crate::fault::BodyFault;
 use crate::fields::{Field, byte_list_of, u8_at};
 use crate::reading_calls::{call_of, reply_of};
-use crate::reading_marks::{mark_of};
-use crate::reading_orders::{answer_of};
+use crate::reading_marks::mark_of;
+use crate::reading_orders::answer_of;
 use mv_calls::{Call, Item, Or, suits};
 use mv_history::{Entry, Mark};
 use std::alloc::Global;

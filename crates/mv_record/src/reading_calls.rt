@@ -4,7 +4,7 @@ ghost use Rattle.mv_record.specs.Reading.{GivesField, accept_call_at, bytes_repl
 
 use crate::fault::BodyFault;
 use crate::fields::{Field, byte_list_of, u8_at, u16_at, u32_at, u64_at};
-use crate::lists::{subs_of, happenings_of};
+use crate::lists::{happenings_of, subs_of};
 use mv_calls::{Call, Happened, Or, Reply, Sub};
 use std::alloc::Global;
 
@@ -60,7 +60,15 @@ pub(crate) fn happened_of(bytes: &[u8]) -> Field<'_, Happened>
     let (error, rest) = u16_at(rest)?;
     let (nbytes, rest) = u64_at(rest)?;
     let (flags, rest) = u16_at(rest)?;
-    Ok((Happened { sub, error, nbytes, flags }, rest))
+    Ok((
+        Happened {
+            sub,
+            error,
+            nbytes,
+            flags,
+        },
+        rest,
+    ))
 }
 
 #[tactic(auto, unfolding(crate::specs::Reading::clock_call_at))]
@@ -218,7 +226,15 @@ fn stat_reply_of(bytes: &[u8]) -> Field<'_, Reply>
     let (flags, rest) = u16_at(rest)?;
     let (rights, rest) = u64_at(rest)?;
     let (heirs, rest) = u64_at(rest)?;
-    Ok((Reply::Stat { filetype, flags, rights, heirs }, rest))
+    Ok((
+        Reply::Stat {
+            filetype,
+            flags,
+            rights,
+            heirs,
+        },
+        rest,
+    ))
 }
 
 #[tactic(auto, unfolding(crate::specs::Reading::ready_reply_at))]
@@ -255,4 +271,3 @@ pub(crate) fn reply_of(alloc: Global, bytes: &[u8]) -> Field<'_, Reply>
         Err(Or::Fault(BodyFault::Code(bytes.len())))
     }
 }
-

@@ -5,12 +5,12 @@ ghost use Rattle.mv_record.specs.Reading.{GivesField, calls_got_at, cause_at, di
 use crate::fault::BodyFault;
 use crate::fields::{Field, u8_at, u32_at, u64_at};
 use crate::reading_births::{born_fault_of, trap_of};
-use crate::reading_calls::{call_of};
+use crate::reading_calls::call_of;
 use mv_calls::{Or, Trap};
 use mv_history::{Cause, How, Mark, Side, Why};
-use mv_orders::{Word};
+use mv_orders::Word;
 use mv_rules::{RuleFault, RuleKind};
-use mv_version::{Event};
+use mv_version::Event;
 use std::alloc::Global;
 
 /// Reads the side of a list of rules.
@@ -319,4 +319,3 @@ pub(crate) fn mark_of(alloc: Global, bytes: &[u8]) -> Field<'_, Mark>
         Err(Or::Fault(BodyFault::Code(bytes.len())))
     }
 }
-

@@ -91,7 +91,14 @@ fn told_answer_of(bytes: &[u8]) -> Field<'_, OrderReply>
     let (stage, rest) = stage_of(bytes)?;
     let (update, rest) = u32_at(rest)?;
     let (last, rest) = last_of(rest)?;
-    Ok((OrderReply::Told { stage, update, last }, rest))
+    Ok((
+        OrderReply::Told {
+            stage,
+            update,
+            last,
+        },
+        rest,
+    ))
 }
 
 #[tactic(auto, unfolding(crate::specs::Reading::unknown_answer_at))]
@@ -164,4 +171,3 @@ pub(crate) fn answer_of(alloc: Global, bytes: &[u8]) -> Field<'_, OrderReply>
         Err(Or::Fault(BodyFault::Code(bytes.len())))
     }
 }
-

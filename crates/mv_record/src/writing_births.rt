@@ -150,4 +150,3 @@ pub(crate) fn put_born_fault(out: &mut Vec<u8>, value: BornFault) -> Result<(), 
         }
     }
 }
-

@@ -5,8 +5,8 @@ ghost use Rattle.mv_record.specs.Fitting.{FitsBody, FitsEntry, FitsItem, IsToldE
 
 use crate::putting::{put_byte_list, put_u8};
 use crate::writing_calls::{put_call, put_reply};
-use crate::writing_marks::{put_mark};
-use crate::writing_orders::{put_answer};
+use crate::writing_marks::put_mark;
+use crate::writing_orders::put_answer;
 use mv_calls::{Call, Item, OutOfMemory};
 use mv_history::{Entry, Mark};
 use std::alloc::Global;

@@ -3,7 +3,7 @@ ghost use Rattle.std.specs.Prelude.{◌≡◌, ◌++◌, OnOk};
 ghost use Rattle.mv_record.specs.Spelling.{call_text, happened_text, reply_text, sub_text};
 ghost use Rattle.mv_record.specs.Fitting.{FitsCall, FitsHappened, FitsReply, FitsSub};
 
-use crate::putting::{put_byte_list, put_u8, put_u16, put_u32, put_u64, put_subs, put_happenings};
+use crate::putting::{put_byte_list, put_happenings, put_subs, put_u8, put_u16, put_u32, put_u64};
 use mv_calls::{Call, Happened, OutOfMemory, Reply, Sub};
 
 /// Writes a subscription.
@@ -117,7 +117,12 @@ pub(crate) fn put_reply(out: &mut Vec<u8>, value: &Reply) -> Result<(), OutOfMem
             put_u8(out, 5)?;
             put_u64(out, *time)
         }
-        Reply::Stat { filetype, flags, rights, heirs } => {
+        Reply::Stat {
+            filetype,
+            flags,
+            rights,
+            heirs,
+        } => {
             put_u8(out, 6)?;
             put_u8(out, *filetype)?;
             put_u16(out, *flags)?;
@@ -130,4 +135,3 @@ pub(crate) fn put_reply(out: &mut Vec<u8>, value: &Reply) -> Result<(), OutOfMem
         }
     }
 }
-

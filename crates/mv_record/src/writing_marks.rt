@@ -5,12 +5,12 @@ ghost use Rattle.mv_record.specs.Fitting.{FitsCause, FitsGot, FitsHow, FitsMark,
 
 use crate::putting::{put_u8, put_u32, put_u64};
 use crate::writing_births::{put_born_fault, put_trap};
-use crate::writing_calls::{put_call};
+use crate::writing_calls::put_call;
 use mv_calls::{OutOfMemory, Trap};
 use mv_history::{Cause, How, Mark, Side, Why};
-use mv_orders::{Word};
+use mv_orders::Word;
 use mv_rules::{RuleFault, RuleKind};
-use mv_version::{Event};
+use mv_version::Event;
 
 /// Writes the side of a list of rules.
 fn put_side(out: &mut Vec<u8>, value: Side) -> Result<(), OutOfMemory>
@@ -180,4 +180,3 @@ pub(crate) fn put_mark(out: &mut Vec<u8>, value: &Mark) -> Result<(), OutOfMemor
         }
     }
 }
-

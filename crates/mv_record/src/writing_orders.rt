@@ -59,7 +59,11 @@ pub(crate) fn put_answer(out: &mut Vec<u8>, value: &OrderReply) -> Result<(), Ou
             put_word(out, *word)?;
             put_u32(out, *update)
         }
-        OrderReply::Told { stage, update, last } => {
+        OrderReply::Told {
+            stage,
+            update,
+            last,
+        } => {
             put_u8(out, 1)?;
             put_stage(out, *stage)?;
             put_u32(out, *update)?;
@@ -90,4 +94,3 @@ pub(crate) fn put_answer(out: &mut Vec<u8>, value: &OrderReply) -> Result<(), Ou
         }
     }
 }
-
