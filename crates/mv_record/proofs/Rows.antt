@@ -13,6 +13,10 @@ use Rattle.mv_record.specs.Spelling.{byte, byte_list, list_text}
 use Rattle.mv_record.specs.Fitting.{IsU8, IsU16, IsU32, IsU64, IsSmall, FitsList}
 use Rattle.mv_record.specs.Reading.{◌>>=◌, ◌⟫◌, Reader, plain_at, number_at, byte_list_at, many_at, list_at, Table, by_code, tagged_at}
 
+-- holds of each value
+abbrev pub Any : {A : Type 0} → A → Type 0
+Any x = Unit {0}
+
 abbrev pub IsBytes : List ℕ → Type 0
 IsBytes bytes = (i : ℕ) → get_or bytes i 0 < 256
 

@@ -7,9 +7,9 @@ use Rattle.mv_syntax.specs.declared.fault.ValidKind.TheVariants as valid_kind
 use Rattle.mv_syntax.specs.declared.fault.StartFault.TheVariants as start
 use Rattle.mv_syntax.specs.declared.fault.BornFault.TheVariants as born
 use Rattle.mv_record.specs.Spelling.{born_fault_text, byte, read_fault_text, read_kind_text, start_fault_text, trap_text, valid_fault_text, valid_kind_text}
-use Rattle.mv_record.specs.Fitting.{Any, FitsBornFault, FitsReadFault, FitsStartFault, FitsValidFault, IsU32, IsU64, IsU8}
+use Rattle.mv_record.specs.Fitting.{FitsBornFault, FitsReadFault, FitsStartFault, FitsValidFault, IsU32, IsU64, IsU8}
 use Rattle.mv_record.specs.Reading.{◌⟫◌, born_fault_at, born_fault_table, code_born_fault_at, data_bounds_start_fault_at, element_bounds_start_fault_at, import_type_start_fault_at, made_read_fault, made_valid_fault, number_at, plain_at, read_born_fault_at, read_fault_at, read_kind_at, read_kind_table, start_born_fault_at, start_fault_at, start_fault_table, transform_born_fault_at, trap_at, trap_start_fault_at, trap_table, unknown_import_start_fault_at, valid_born_fault_at, valid_fault_at, valid_kind_at, valid_kind_table}
-use Rattle.mv_record.proofs.Rows.{IsRow, IsAgain, row4, row8, byte_row, u32_again, u64_again, byte_again, field_row, plain_row, then_again, ends_again, tagged_row, tagged_again}
+use Rattle.mv_record.proofs.Rows.{Any, IsRow, IsAgain, row4, row8, byte_row, u32_again, u64_again, byte_again, field_row, plain_row, then_again, ends_again, tagged_row, tagged_again}
 
 -- ---- a trap
 

@@ -9,9 +9,9 @@ use Rattle.mv_history.specs.declared.log.Why.TheVariants as why
 use Rattle.mv_history.specs.declared.log.How.TheVariants as how
 use Rattle.mv_history.specs.declared.log.Mark.TheVariants as mark
 use Rattle.mv_record.specs.Spelling.{born_fault_text, call_text, cause_text, got_text, how_text, mark_text, rule_fault_text, rule_kind_text, side_text, trap_text, why_text}
-use Rattle.mv_record.specs.Fitting.{Any, FitsBornFault, FitsCall, FitsCause, FitsGot, FitsHow, FitsMark, FitsRuleFault, IsU32, IsU64}
+use Rattle.mv_record.specs.Fitting.{FitsBornFault, FitsCall, FitsCause, FitsGot, FitsHow, FitsMark, FitsRuleFault, IsU32, IsU64}
 use Rattle.mv_record.specs.Reading.{◌⟫◌, born_fault_at, call_at, calls_got_at, cause_at, cause_table, discard_mark_at, dropped_mark_at, end_mark_at, ended_how_at, ends_got_at, fork_mark_at, got_at, got_table, hand_mark_at, how_at, how_table, made_rule_fault, mark_at, mark_table, mismatch_cause_at, no_copy_mark_at, number_at, order_cause_at, plain_at, refused_cause_at, rule_fault_at, rule_kind_at, rule_kind_table, rules_cause_at, side_at, side_table, trap_at, trap_cause_at, trap_why_at, trapped_how_at, why_at, why_table}
-use Rattle.mv_record.proofs.Rows.{IsRow, IsAgain, row4, row8, u32_again, u64_again, field_row, plain_row, then_again, ends_again, tagged_row, tagged_again}
+use Rattle.mv_record.proofs.Rows.{Any, IsRow, IsAgain, row4, row8, u32_again, u64_again, field_row, plain_row, then_again, ends_again, tagged_row, tagged_again}
 use Rattle.mv_record.proofs.RowsCalls.{call_row, call_again}
 use Rattle.mv_record.proofs.RowsBirths.{trap_row, trap_again, born_fault_row, born_fault_again}
 

@@ -6,9 +6,9 @@ use Rattle.mv_orders.specs.declared.stage.Stage.TheVariants as stage
 use Rattle.mv_orders.specs.declared.stage.Last.TheVariants as last
 use Rattle.mv_orders.specs.declared.reply.OrderReply.TheVariants as answer
 use Rattle.mv_record.specs.Spelling.{answer_text, byte_list, last_text, stage_text, word_text}
-use Rattle.mv_record.specs.Fitting.{Any, FitsAnswer, IsSmall, IsU32}
+use Rattle.mv_record.specs.Fitting.{FitsAnswer, IsSmall, IsU32}
 use Rattle.mv_record.specs.Reading.{◌⟫◌, accepted_answer_at, answer_at, answer_table, busy_answer_at, byte_list_at, failed_answer_at, last_at, last_table, missing_answer_at, number_at, plain_at, stage_answer_at, stage_at, stage_table, told_answer_at, unknown_answer_at, word_at, word_table}
-use Rattle.mv_record.proofs.Rows.{IsRow, IsAgain, row4, u32_again, byte_list_row, byte_list_again, field_row, plain_row, then_again, ends_again, tagged_row, tagged_again}
+use Rattle.mv_record.proofs.Rows.{Any, IsRow, IsAgain, row4, u32_again, byte_list_row, byte_list_again, field_row, plain_row, then_again, ends_again, tagged_row, tagged_again}
 
 -- ---- an accepted word
 

@@ -30,8 +30,7 @@ use Rattle.mv_history.specs.declared.log.Entry.{Entry}
 use Rattle.mv_history.specs.declared.log.Entry.TheVariants as entry
 use Rattle.mv_record.specs.Spelling.{body_text, file_text}
 
-abbrev pub Any : {A : Type 0} → A → Type 0
-Any x = Unit {0}
+-- ---- numbers of a type
 
 abbrev pub IsU8 : ℕ → Type 0
 IsU8 n = n < 2 ^ 8
@@ -45,11 +44,14 @@ IsU32 n = n < 2 ^ 32
 abbrev pub IsU64 : ℕ → Type 0
 IsU64 n = n < 2 ^ 64
 
+-- a length that is written as a u32
 abbrev pub IsSmall : {A : Type 0} → List A → Type 0
 IsSmall values = length values < 2 ^ 32
 
 abbrev pub FitsList : {A : Type 0} → (A → Type 0) → List A → Type 0
 FitsList Fits values = IsSmall values × AllByRecursion Fits values
+
+-- ---- calls and replies
 
 abbrev pub FitsSub : Sub → Type 0
 FitsSub (sub.Clock id timeout flags) = IsU32 id × IsU64 timeout × IsU16 flags

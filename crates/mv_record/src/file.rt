@@ -16,6 +16,7 @@ use std::alloc::Global;
 /// The most bytes of a file.
 const FILE_LIMIT: usize = 536_870_912;
 
+/// `MVLOG001`
 const MAGIC: [u8; 8] = [77, 86, 76, 79, 71, 48, 48, 49];
 
 /// What follows the first eight bytes.

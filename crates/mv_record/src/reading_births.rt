@@ -14,34 +14,21 @@ pub(crate) fn trap_of(bytes: &[u8]) -> Field<'_, Trap>
     ensures { GivesField result (trap_at bytes.now) }
 {
     let (code, rest) = u8_at(bytes)?;
-    if code == 0 {
-        Ok((Trap::Unreachable, rest))
-    } else if code == 1 {
-        Ok((Trap::DivideByZero, rest))
-    } else if code == 2 {
-        Ok((Trap::Overflow, rest))
-    } else if code == 3 {
-        Ok((Trap::Bounds, rest))
-    } else if code == 4 {
-        Ok((Trap::TableIndex, rest))
-    } else if code == 5 {
-        Ok((Trap::EmptyElement, rest))
-    } else if code == 6 {
-        Ok((Trap::IndirectType, rest))
-    } else if code == 7 {
-        Ok((Trap::Frames, rest))
-    } else if code == 8 {
-        Ok((Trap::Operands, rest))
-    } else if code == 9 {
-        Ok((Trap::Spent, rest))
-    } else if code == 10 {
-        Ok((Trap::OldGlobal, rest))
-    } else if code == 11 {
-        Ok((Trap::NotNow, rest))
-    } else if code == 12 {
-        Ok((Trap::CallInTransform, rest))
-    } else {
-        Err(Or::Fault(BodyFault::Code(bytes.len())))
+    match code {
+        0 => Ok((Trap::Unreachable, rest)),
+        1 => Ok((Trap::DivideByZero, rest)),
+        2 => Ok((Trap::Overflow, rest)),
+        3 => Ok((Trap::Bounds, rest)),
+        4 => Ok((Trap::TableIndex, rest)),
+        5 => Ok((Trap::EmptyElement, rest)),
+        6 => Ok((Trap::IndirectType, rest)),
+        7 => Ok((Trap::Frames, rest)),
+        8 => Ok((Trap::Operands, rest)),
+        9 => Ok((Trap::Spent, rest)),
+        10 => Ok((Trap::OldGlobal, rest)),
+        11 => Ok((Trap::NotNow, rest)),
+        12 => Ok((Trap::CallInTransform, rest)),
+        _ => Err(Or::Fault(BodyFault::Code(bytes.len()))),
     }
 }
 
@@ -51,30 +38,19 @@ fn read_kind_of(bytes: &[u8]) -> Field<'_, ReadKind>
     ensures { GivesField result (read_kind_at bytes.now) }
 {
     let (code, rest) = u8_at(bytes)?;
-    if code == 0 {
-        Ok((ReadKind::Magic, rest))
-    } else if code == 1 {
-        Ok((ReadKind::Cut, rest))
-    } else if code == 2 {
-        Ok((ReadKind::Order, rest))
-    } else if code == 3 {
-        Ok((ReadKind::Size, rest))
-    } else if code == 4 {
-        Ok((ReadKind::Leb, rest))
-    } else if code == 5 {
-        Ok((ReadKind::Utf8, rest))
-    } else if code == 6 {
-        Ok((ReadKind::Kind, rest))
-    } else if code == 7 {
-        Ok((ReadKind::Float, rest))
-    } else if code == 8 {
-        Ok((ReadKind::LaterFeature, rest))
-    } else if code == 9 {
-        Ok((ReadKind::Count, rest))
-    } else if code == 10 {
-        Ok((ReadKind::Limit, rest))
-    } else {
-        Err(Or::Fault(BodyFault::Code(bytes.len())))
+    match code {
+        0 => Ok((ReadKind::Magic, rest)),
+        1 => Ok((ReadKind::Cut, rest)),
+        2 => Ok((ReadKind::Order, rest)),
+        3 => Ok((ReadKind::Size, rest)),
+        4 => Ok((ReadKind::Leb, rest)),
+        5 => Ok((ReadKind::Utf8, rest)),
+        6 => Ok((ReadKind::Kind, rest)),
+        7 => Ok((ReadKind::Float, rest)),
+        8 => Ok((ReadKind::LaterFeature, rest)),
+        9 => Ok((ReadKind::Count, rest)),
+        10 => Ok((ReadKind::Limit, rest)),
+        _ => Err(Or::Fault(BodyFault::Code(bytes.len()))),
     }
 }
 
@@ -84,36 +60,22 @@ fn valid_kind_of(bytes: &[u8]) -> Field<'_, ValidKind>
     ensures { GivesField result (valid_kind_at bytes.now) }
 {
     let (code, rest) = u8_at(bytes)?;
-    if code == 0 {
-        Ok((ValidKind::TypeIndex, rest))
-    } else if code == 1 {
-        Ok((ValidKind::FuncIndex, rest))
-    } else if code == 2 {
-        Ok((ValidKind::NoTable, rest))
-    } else if code == 3 {
-        Ok((ValidKind::NoMemory, rest))
-    } else if code == 4 {
-        Ok((ValidKind::GlobalIndex, rest))
-    } else if code == 5 {
-        Ok((ValidKind::LocalIndex, rest))
-    } else if code == 6 {
-        Ok((ValidKind::LabelIndex, rest))
-    } else if code == 7 {
-        Ok((ValidKind::Operand, rest))
-    } else if code == 8 {
-        Ok((ValidKind::Immutable, rest))
-    } else if code == 9 {
-        Ok((ValidKind::Align, rest))
-    } else if code == 10 {
-        Ok((ValidKind::Constant, rest))
-    } else if code == 11 {
-        Ok((ValidKind::Limits, rest))
-    } else if code == 12 {
-        Ok((ValidKind::ExportName, rest))
-    } else if code == 13 {
-        Ok((ValidKind::StartType, rest))
-    } else {
-        Err(Or::Fault(BodyFault::Code(bytes.len())))
+    match code {
+        0 => Ok((ValidKind::TypeIndex, rest)),
+        1 => Ok((ValidKind::FuncIndex, rest)),
+        2 => Ok((ValidKind::NoTable, rest)),
+        3 => Ok((ValidKind::NoMemory, rest)),
+        4 => Ok((ValidKind::GlobalIndex, rest)),
+        5 => Ok((ValidKind::LocalIndex, rest)),
+        6 => Ok((ValidKind::LabelIndex, rest)),
+        7 => Ok((ValidKind::Operand, rest)),
+        8 => Ok((ValidKind::Immutable, rest)),
+        9 => Ok((ValidKind::Align, rest)),
+        10 => Ok((ValidKind::Constant, rest)),
+        11 => Ok((ValidKind::Limits, rest)),
+        12 => Ok((ValidKind::ExportName, rest)),
+        13 => Ok((ValidKind::StartType, rest)),
+        _ => Err(Or::Fault(BodyFault::Code(bytes.len()))),
     }
 }
 
@@ -193,20 +155,14 @@ fn start_fault_of(bytes: &[u8]) -> Field<'_, StartFault>
     ensures { GivesField result (start_fault_at bytes.now) }
 {
     let (code, rest) = u8_at(bytes)?;
-    if code == 0 {
-        Ok((StartFault::NoEntry, rest))
-    } else if code == 1 {
-        unknown_import_start_fault_of(rest)
-    } else if code == 2 {
-        import_type_start_fault_of(rest)
-    } else if code == 3 {
-        element_bounds_start_fault_of(rest)
-    } else if code == 4 {
-        data_bounds_start_fault_of(rest)
-    } else if code == 5 {
-        trap_start_fault_of(rest)
-    } else {
-        Err(Or::Fault(BodyFault::Code(bytes.len())))
+    match code {
+        0 => Ok((StartFault::NoEntry, rest)),
+        1 => unknown_import_start_fault_of(rest),
+        2 => import_type_start_fault_of(rest),
+        3 => element_bounds_start_fault_of(rest),
+        4 => data_bounds_start_fault_of(rest),
+        5 => trap_start_fault_of(rest),
+        _ => Err(Or::Fault(BodyFault::Code(bytes.len()))),
     }
 }
 
@@ -256,21 +212,14 @@ pub(crate) fn born_fault_of(bytes: &[u8]) -> Field<'_, BornFault>
     ensures { GivesField result (born_fault_at bytes.now) }
 {
     let (code, rest) = u8_at(bytes)?;
-    if code == 0 {
-        read_born_fault_of(rest)
-    } else if code == 1 {
-        valid_born_fault_of(rest)
-    } else if code == 2 {
-        start_born_fault_of(rest)
-    } else if code == 3 {
-        Ok((BornFault::NoTransform, rest))
-    } else if code == 4 {
-        Ok((BornFault::NoResume, rest))
-    } else if code == 5 {
-        transform_born_fault_of(rest)
-    } else if code == 6 {
-        code_born_fault_of(rest)
-    } else {
-        Err(Or::Fault(BodyFault::Code(bytes.len())))
+    match code {
+        0 => read_born_fault_of(rest),
+        1 => valid_born_fault_of(rest),
+        2 => start_born_fault_of(rest),
+        3 => Ok((BornFault::NoTransform, rest)),
+        4 => Ok((BornFault::NoResume, rest)),
+        5 => transform_born_fault_of(rest),
+        6 => code_born_fault_of(rest),
+        _ => Err(Or::Fault(BodyFault::Code(bytes.len()))),
     }
 }

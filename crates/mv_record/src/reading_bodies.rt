@@ -55,16 +55,12 @@ fn body_of(alloc: Global, bytes: &[u8]) -> Field<'_, Entry>
     ensures { GivesField result (body_at bytes.now) }
 {
     let (code, rest) = u8_at(bytes)?;
-    if code == 0 {
-        call_body_of(alloc, rest)
-    } else if code == 1 {
-        Ok((Entry::Point, rest))
-    } else if code == 2 {
-        order_body_of(alloc, rest)
-    } else if code == 3 {
-        mark_body_of(alloc, rest)
-    } else {
-        Err(Or::Fault(BodyFault::Code(bytes.len())))
+    match code {
+        0 => call_body_of(alloc, rest),
+        1 => Ok((Entry::Point, rest)),
+        2 => order_body_of(alloc, rest),
+        3 => mark_body_of(alloc, rest),
+        _ => Err(Or::Fault(BodyFault::Code(bytes.len()))),
     }
 }
 

@@ -40,14 +40,11 @@ pub(crate) fn sub_of(bytes: &[u8]) -> Field<'_, Sub>
     ensures { GivesField result (sub_at bytes.now) }
 {
     let (code, rest) = u8_at(bytes)?;
-    if code == 0 {
-        clock_sub_of(rest)
-    } else if code == 1 {
-        read_sub_of(rest)
-    } else if code == 2 {
-        write_sub_of(rest)
-    } else {
-        Err(Or::Fault(BodyFault::Code(bytes.len())))
+    match code {
+        0 => clock_sub_of(rest),
+        1 => read_sub_of(rest),
+        2 => write_sub_of(rest),
+        _ => Err(Or::Fault(BodyFault::Code(bytes.len()))),
     }
 }
 
@@ -153,28 +150,18 @@ pub(crate) fn call_of(alloc: Global, bytes: &[u8]) -> Field<'_, Call>
     ensures { GivesField result (call_at bytes.now) }
 {
     let (code, rest) = u8_at(bytes)?;
-    if code == 0 {
-        clock_call_of(rest)
-    } else if code == 1 {
-        random_call_of(rest)
-    } else if code == 2 {
-        read_call_of(rest)
-    } else if code == 3 {
-        write_call_of(alloc, rest)
-    } else if code == 4 {
-        close_call_of(rest)
-    } else if code == 5 {
-        fd_stat_call_of(rest)
-    } else if code == 6 {
-        Ok((Call::Yield, rest))
-    } else if code == 7 {
-        poll_call_of(alloc, rest)
-    } else if code == 8 {
-        accept_call_of(rest)
-    } else if code == 9 {
-        shutdown_call_of(rest)
-    } else {
-        Err(Or::Fault(BodyFault::Code(bytes.len())))
+    match code {
+        0 => clock_call_of(rest),
+        1 => random_call_of(rest),
+        2 => read_call_of(rest),
+        3 => write_call_of(alloc, rest),
+        4 => close_call_of(rest),
+        5 => fd_stat_call_of(rest),
+        6 => Ok((Call::Yield, rest)),
+        7 => poll_call_of(alloc, rest),
+        8 => accept_call_of(rest),
+        9 => shutdown_call_of(rest),
+        _ => Err(Or::Fault(BodyFault::Code(bytes.len()))),
     }
 }
 
@@ -251,23 +238,15 @@ pub(crate) fn reply_of(alloc: Global, bytes: &[u8]) -> Field<'_, Reply>
     ensures { GivesField result (reply_at bytes.now) }
 {
     let (code, rest) = u8_at(bytes)?;
-    if code == 0 {
-        errno_reply_of(rest)
-    } else if code == 1 {
-        Ok((Reply::Done, rest))
-    } else if code == 2 {
-        bytes_reply_of(alloc, rest)
-    } else if code == 3 {
-        count_reply_of(rest)
-    } else if code == 4 {
-        fd_reply_of(rest)
-    } else if code == 5 {
-        time_reply_of(rest)
-    } else if code == 6 {
-        stat_reply_of(rest)
-    } else if code == 7 {
-        ready_reply_of(alloc, rest)
-    } else {
-        Err(Or::Fault(BodyFault::Code(bytes.len())))
+    match code {
+        0 => errno_reply_of(rest),
+        1 => Ok((Reply::Done, rest)),
+        2 => bytes_reply_of(alloc, rest),
+        3 => count_reply_of(rest),
+        4 => fd_reply_of(rest),
+        5 => time_reply_of(rest),
+        6 => stat_reply_of(rest),
+        7 => ready_reply_of(alloc, rest),
+        _ => Err(Or::Fault(BodyFault::Code(bytes.len()))),
     }
 }

@@ -19,12 +19,10 @@ fn side_of(bytes: &[u8]) -> Field<'_, Side>
     ensures { GivesField result (side_at bytes.now) }
 {
     let (code, rest) = u8_at(bytes)?;
-    if code == 0 {
-        Ok((Side::Forward, rest))
-    } else if code == 1 {
-        Ok((Side::Reverse, rest))
-    } else {
-        Err(Or::Fault(BodyFault::Code(bytes.len())))
+    match code {
+        0 => Ok((Side::Forward, rest)),
+        1 => Ok((Side::Reverse, rest)),
+        _ => Err(Or::Fault(BodyFault::Code(bytes.len()))),
     }
 }
 
@@ -34,36 +32,22 @@ fn rule_kind_of(bytes: &[u8]) -> Field<'_, RuleKind>
     ensures { GivesField result (rule_kind_at bytes.now) }
 {
     let (code, rest) = u8_at(bytes)?;
-    if code == 0 {
-        Ok((RuleKind::Size, rest))
-    } else if code == 1 {
-        Ok((RuleKind::Header, rest))
-    } else if code == 2 {
-        Ok((RuleKind::Shape, rest))
-    } else if code == 3 {
-        Ok((RuleKind::Many, rest))
-    } else if code == 4 {
-        Ok((RuleKind::Empty, rest))
-    } else if code == 5 {
-        Ok((RuleKind::Word, rest))
-    } else if code == 6 {
-        Ok((RuleKind::Number, rest))
-    } else if code == 7 {
-        Ok((RuleKind::Quote, rest))
-    } else if code == 8 {
-        Ok((RuleKind::Name, rest))
-    } else if code == 9 {
-        Ok((RuleKind::Twice, rest))
-    } else if code == 10 {
-        Ok((RuleKind::Unbound, rest))
-    } else if code == 11 {
-        Ok((RuleKind::Reads, rest))
-    } else if code == 12 {
-        Ok((RuleKind::Accepts, rest))
-    } else if code == 13 {
-        Ok((RuleKind::Guard, rest))
-    } else {
-        Err(Or::Fault(BodyFault::Code(bytes.len())))
+    match code {
+        0 => Ok((RuleKind::Size, rest)),
+        1 => Ok((RuleKind::Header, rest)),
+        2 => Ok((RuleKind::Shape, rest)),
+        3 => Ok((RuleKind::Many, rest)),
+        4 => Ok((RuleKind::Empty, rest)),
+        5 => Ok((RuleKind::Word, rest)),
+        6 => Ok((RuleKind::Number, rest)),
+        7 => Ok((RuleKind::Quote, rest)),
+        8 => Ok((RuleKind::Name, rest)),
+        9 => Ok((RuleKind::Twice, rest)),
+        10 => Ok((RuleKind::Unbound, rest)),
+        11 => Ok((RuleKind::Reads, rest)),
+        12 => Ok((RuleKind::Accepts, rest)),
+        13 => Ok((RuleKind::Guard, rest)),
+        _ => Err(Or::Fault(BodyFault::Code(bytes.len()))),
     }
 }
 
@@ -99,12 +83,10 @@ fn got_of(alloc: Global, bytes: &[u8]) -> Field<'_, Event>
     ensures { GivesField result (got_at bytes.now) }
 {
     let (code, rest) = u8_at(bytes)?;
-    if code == 0 {
-        calls_got_of(alloc, rest)
-    } else if code == 1 {
-        ends_got_of(rest)
-    } else {
-        Err(Or::Fault(BodyFault::Code(bytes.len())))
+    match code {
+        0 => calls_got_of(alloc, rest),
+        1 => ends_got_of(rest),
+        _ => Err(Or::Fault(BodyFault::Code(bytes.len()))),
     }
 }
 
@@ -158,20 +140,14 @@ fn cause_of(alloc: Global, bytes: &[u8]) -> Field<'_, Cause>
     ensures { GivesField result (cause_at bytes.now) }
 {
     let (code, rest) = u8_at(bytes)?;
-    if code == 0 {
-        trap_cause_of(rest)
-    } else if code == 1 {
-        mismatch_cause_of(alloc, rest)
-    } else if code == 2 {
-        refused_cause_of(rest)
-    } else if code == 3 {
-        rules_cause_of(rest)
-    } else if code == 4 {
-        order_cause_of(rest)
-    } else if code == 5 {
-        Ok((Cause::Memory, rest))
-    } else {
-        Err(Or::Fault(BodyFault::Code(bytes.len())))
+    match code {
+        0 => trap_cause_of(rest),
+        1 => mismatch_cause_of(alloc, rest),
+        2 => refused_cause_of(rest),
+        3 => rules_cause_of(rest),
+        4 => order_cause_of(rest),
+        5 => Ok((Cause::Memory, rest)),
+        _ => Err(Or::Fault(BodyFault::Code(bytes.len()))),
     }
 }
 
@@ -189,14 +165,11 @@ fn why_of(bytes: &[u8]) -> Field<'_, Why>
     ensures { GivesField result (why_at bytes.now) }
 {
     let (code, rest) = u8_at(bytes)?;
-    if code == 0 {
-        Ok((Why::Promote, rest))
-    } else if code == 1 {
-        Ok((Why::Back, rest))
-    } else if code == 2 {
-        trap_why_of(rest)
-    } else {
-        Err(Or::Fault(BodyFault::Code(bytes.len())))
+    match code {
+        0 => Ok((Why::Promote, rest)),
+        1 => Ok((Why::Back, rest)),
+        2 => trap_why_of(rest),
+        _ => Err(Or::Fault(BodyFault::Code(bytes.len()))),
     }
 }
 
@@ -222,22 +195,15 @@ fn how_of(bytes: &[u8]) -> Field<'_, How>
     ensures { GivesField result (how_at bytes.now) }
 {
     let (code, rest) = u8_at(bytes)?;
-    if code == 0 {
-        ended_how_of(rest)
-    } else if code == 1 {
-        trapped_how_of(rest)
-    } else if code == 2 {
-        Ok((How::Halted, rest))
-    } else if code == 3 {
-        Ok((How::Cut, rest))
-    } else if code == 4 {
-        Ok((How::KernelFault, rest))
-    } else if code == 5 {
-        Ok((How::LogLimit, rest))
-    } else if code == 6 {
-        Ok((How::Memory, rest))
-    } else {
-        Err(Or::Fault(BodyFault::Code(bytes.len())))
+    match code {
+        0 => ended_how_of(rest),
+        1 => trapped_how_of(rest),
+        2 => Ok((How::Halted, rest)),
+        3 => Ok((How::Cut, rest)),
+        4 => Ok((How::KernelFault, rest)),
+        5 => Ok((How::LogLimit, rest)),
+        6 => Ok((How::Memory, rest)),
+        _ => Err(Or::Fault(BodyFault::Code(bytes.len()))),
     }
 }
 
@@ -295,27 +261,17 @@ pub(crate) fn mark_of(alloc: Global, bytes: &[u8]) -> Field<'_, Mark>
     ensures { GivesField result (mark_at bytes.now) }
 {
     let (code, rest) = u8_at(bytes)?;
-    if code == 0 {
-        fork_mark_of(rest)
-    } else if code == 1 {
-        no_copy_mark_of(rest)
-    } else if code == 2 {
-        hand_mark_of(rest)
-    } else if code == 3 {
-        Ok((Mark::Promote, rest))
-    } else if code == 4 {
-        Ok((Mark::Over, rest))
-    } else if code == 5 {
-        Ok((Mark::Back, rest))
-    } else if code == 6 {
-        Ok((Mark::Finish, rest))
-    } else if code == 7 {
-        discard_mark_of(alloc, rest)
-    } else if code == 8 {
-        dropped_mark_of(alloc, rest)
-    } else if code == 9 {
-        end_mark_of(rest)
-    } else {
-        Err(Or::Fault(BodyFault::Code(bytes.len())))
+    match code {
+        0 => fork_mark_of(rest),
+        1 => no_copy_mark_of(rest),
+        2 => hand_mark_of(rest),
+        3 => Ok((Mark::Promote, rest)),
+        4 => Ok((Mark::Over, rest)),
+        5 => Ok((Mark::Back, rest)),
+        6 => Ok((Mark::Finish, rest)),
+        7 => discard_mark_of(alloc, rest),
+        8 => dropped_mark_of(alloc, rest),
+        9 => end_mark_of(rest),
+        _ => Err(Or::Fault(BodyFault::Code(bytes.len()))),
     }
 }

@@ -14,20 +14,14 @@ fn word_of(bytes: &[u8]) -> Field<'_, Word>
     ensures { GivesField result (word_at bytes.now) }
 {
     let (code, rest) = u8_at(bytes)?;
-    if code == 0 {
-        Ok((Word::Update, rest))
-    } else if code == 1 {
-        Ok((Word::Promote, rest))
-    } else if code == 2 {
-        Ok((Word::Discard, rest))
-    } else if code == 3 {
-        Ok((Word::Finish, rest))
-    } else if code == 4 {
-        Ok((Word::Back, rest))
-    } else if code == 5 {
-        Ok((Word::Halt, rest))
-    } else {
-        Err(Or::Fault(BodyFault::Code(bytes.len())))
+    match code {
+        0 => Ok((Word::Update, rest)),
+        1 => Ok((Word::Promote, rest)),
+        2 => Ok((Word::Discard, rest)),
+        3 => Ok((Word::Finish, rest)),
+        4 => Ok((Word::Back, rest)),
+        5 => Ok((Word::Halt, rest)),
+        _ => Err(Or::Fault(BodyFault::Code(bytes.len()))),
     }
 }
 
@@ -37,16 +31,12 @@ fn stage_of(bytes: &[u8]) -> Field<'_, Stage>
     ensures { GivesField result (stage_at bytes.now) }
 {
     let (code, rest) = u8_at(bytes)?;
-    if code == 0 {
-        Ok((Stage::OldAlone, rest))
-    } else if code == 1 {
-        Ok((Stage::OldLeads, rest))
-    } else if code == 2 {
-        Ok((Stage::NewLeads, rest))
-    } else if code == 3 {
-        Ok((Stage::NewAlone, rest))
-    } else {
-        Err(Or::Fault(BodyFault::Code(bytes.len())))
+    match code {
+        0 => Ok((Stage::OldAlone, rest)),
+        1 => Ok((Stage::OldLeads, rest)),
+        2 => Ok((Stage::NewLeads, rest)),
+        3 => Ok((Stage::NewAlone, rest)),
+        _ => Err(Or::Fault(BodyFault::Code(bytes.len()))),
     }
 }
 
@@ -56,22 +46,15 @@ fn last_of(bytes: &[u8]) -> Field<'_, Last>
     ensures { GivesField result (last_at bytes.now) }
 {
     let (code, rest) = u8_at(bytes)?;
-    if code == 0 {
-        Ok((Last::Never, rest))
-    } else if code == 1 {
-        Ok((Last::Trap, rest))
-    } else if code == 2 {
-        Ok((Last::Mismatch, rest))
-    } else if code == 3 {
-        Ok((Last::Refused, rest))
-    } else if code == 4 {
-        Ok((Last::Rules, rest))
-    } else if code == 5 {
-        Ok((Last::Order, rest))
-    } else if code == 6 {
-        Ok((Last::Memory, rest))
-    } else {
-        Err(Or::Fault(BodyFault::Code(bytes.len())))
+    match code {
+        0 => Ok((Last::Never, rest)),
+        1 => Ok((Last::Trap, rest)),
+        2 => Ok((Last::Mismatch, rest)),
+        3 => Ok((Last::Refused, rest)),
+        4 => Ok((Last::Rules, rest)),
+        5 => Ok((Last::Order, rest)),
+        6 => Ok((Last::Memory, rest)),
+        _ => Err(Or::Fault(BodyFault::Code(bytes.len()))),
     }
 }
 
@@ -147,27 +130,17 @@ pub(crate) fn answer_of(alloc: Global, bytes: &[u8]) -> Field<'_, OrderReply>
     ensures { GivesField result (answer_at bytes.now) }
 {
     let (code, rest) = u8_at(bytes)?;
-    if code == 0 {
-        accepted_answer_of(rest)
-    } else if code == 1 {
-        told_answer_of(rest)
-    } else if code == 2 {
-        Ok((OrderReply::Long, rest))
-    } else if code == 3 {
-        Ok((OrderReply::Utf8, rest))
-    } else if code == 4 {
-        unknown_answer_of(alloc, rest)
-    } else if code == 5 {
-        stage_answer_of(rest)
-    } else if code == 6 {
-        busy_answer_of(rest)
-    } else if code == 7 {
-        Ok((OrderReply::Many, rest))
-    } else if code == 8 {
-        missing_answer_of(alloc, rest)
-    } else if code == 9 {
-        failed_answer_of(alloc, rest)
-    } else {
-        Err(Or::Fault(BodyFault::Code(bytes.len())))
+    match code {
+        0 => accepted_answer_of(rest),
+        1 => told_answer_of(rest),
+        2 => Ok((OrderReply::Long, rest)),
+        3 => Ok((OrderReply::Utf8, rest)),
+        4 => unknown_answer_of(alloc, rest),
+        5 => stage_answer_of(rest),
+        6 => busy_answer_of(rest),
+        7 => Ok((OrderReply::Many, rest)),
+        8 => missing_answer_of(alloc, rest),
+        9 => failed_answer_of(alloc, rest),
+        _ => Err(Or::Fault(BodyFault::Code(bytes.len()))),
     }
 }
