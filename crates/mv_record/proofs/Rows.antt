@@ -180,6 +180,10 @@ byte_list_again text rest lt =
     let first : number_at 4 (byte_list text ++ rest) ≡ Ok (length text, text ++ rest) = ap (number_at 4) (append_assoc (little_bytes 4 (length text)) text rest) ∙ number_again 4 (length text) (text ++ rest) lt in
     bind_again (number_at 4 (byte_list text ++ rest)) _ (length text, text ++ rest) first ∙ rw (long, take_at text rest (length text) refl, drop_at text rest (length text) refl) refl
 
+-- two parts one after another
+pub joined : (bytes first second tail rest : List ℕ) → bytes ≡ first ++ tail → tail ≡ second ++ rest → bytes ≡ (first ++ second) ++ rest
+joined bytes first second tail rest e f = e ∙ ap (λ (r : List ℕ). first ++ r) f ∙ sym (append_assoc first second rest)
+
 -- ---- one field, and then what is read after it
 
 module _ {A C : Type 0} (ta : A → List ℕ) (Fa : A → Type 0) (ra : Reader A) (next : A → Reader C) where

@@ -7,7 +7,7 @@ use Rattle.mv_history.specs.declared.log.Entry.{Entry}
 use Rattle.mv_record.specs.Spelling.{answer_text, body_text, byte_list, call_text, item_text, mark_text, reply_text}
 use Rattle.mv_record.specs.Fitting.{FitsAnswer, FitsBody, FitsItem, FitsMark, IsSmall}
 use Rattle.mv_record.specs.Reading.{◌>>=◌, ◌⟫◌, answer_at, body_at, body_table, byte_list_at, call_at, call_body_at, item_at, mark_at, mark_body_at, order_body_at, plain_at, reply_at, whole_body}
-use Rattle.mv_record.proofs.Rows.{IsBytes, IsRow, IsAgain, Takes, bind_ok, bind_again, byte_list_row, byte_list_again, field_row, plain_row, then_again, ends_again, tagged_row, tagged_again}
+use Rattle.mv_record.proofs.Rows.{IsBytes, joined, IsRow, IsAgain, Takes, bind_ok, bind_again, byte_list_row, byte_list_again, field_row, plain_row, then_again, ends_again, tagged_row, tagged_again}
 use Rattle.mv_record.proofs.RowsCalls.{call_row, call_again, reply_row, reply_again}
 use Rattle.mv_record.proofs.RowsOrders.{answer_row, answer_again}
 use Rattle.mv_record.proofs.RowsMarks.{mark_row, mark_again}
@@ -33,8 +33,7 @@ item_row = record {
       let g = suit_guard (suits_of a.0.0 b.0.0) (Suit (length a.0.1)) ((a.0.0, b.0.0), b.0.1) (x, rest) b.2 in
       let t = call_row.takes bytes a.0.0 a.0.1 fits a.1 in
       let u = reply_row.takes a.0.1 b.0.0 b.0.1 t.rest_fits b.1 in
-      let whole : bytes ≡ item_text (a.0.0, b.0.0) ++ b.0.1 =
-      t.parts ∙ ap (λ (r : List ℕ). call_text a.0.0 ++ r) u.parts ∙ sym (append_assoc (call_text a.0.0) (reply_text b.0.0) b.0.1) in
+      let whole : bytes ≡ item_text (a.0.0, b.0.0) ++ b.0.1 = joined bytes (call_text a.0.0) (reply_text b.0.0) a.0.1 b.0.1 t.parts u.parts in
       subst (λ (p : (Call × Reply) × List ℕ). Takes [] bytes item_text FitsItem p.0 p.1) g.1 (record { parts = whole; fits = (t.fits, u.fits, g.0); rest_fits = u.rest_fits });
 }
 
