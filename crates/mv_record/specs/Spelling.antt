@@ -232,7 +232,7 @@ rule_kind_text rule_kind.Guard = 13 ∷ []
 abbrev pub rule_fault_text : RuleFault → List ℕ
 rule_fault_text x = little_bytes 4 x.line ++ rule_kind_text x.kind
 
--- what a follower did instead
+-- what a follower did instead; an update point or a trap has no spelling (`IsTold`)
 abbrev pub got_text : Event → List ℕ
 got_text (event.Calls call) = 0 ∷ call_text call
 got_text (event.Ends code) = 1 ∷ little_bytes 4 code
