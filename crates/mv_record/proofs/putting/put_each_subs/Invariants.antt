@@ -1,0 +1,8 @@
+use Rattle.std.proofs.Common.{◌≡◌, ◌++◌, take}
+use Rattle.std.specs.List.{flat_map, AllByRecursion}
+use Rattle.mv_record.specs.Spelling.{sub_text}
+use Rattle.mv_record.specs.Fitting.{FitsSub}
+use Rattle.mv_record.proofs.putting.put_each_subs.Given as goal
+
+abbrev pub invariant-loop-value : goal.invariant-loop-value
+invariant-loop-value l = AllByRecursion FitsSub (take l.value-index l.values) × (l.out.items ≡ l.fn.out.items ++ flat_map sub_text (take l.value-index l.values))
