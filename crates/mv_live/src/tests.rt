@@ -3,10 +3,10 @@
 use crate::disk_files::DiskFiles;
 use crate::streams::Streams;
 use crate::writer_sink::WriterSink;
-use mv_calls::{Bytes, Call, Item, OutOfMemory, Reply, Room};
+use mv_calls::{Bytes, Call, Item, OutOfMemory, Reply, Room, Texts};
 use mv_commands::{carry_out, program};
 use mv_history::{Entry, Mark};
-use mv_kernmem::{Conns, MemKernel, Numbers, Script};
+use mv_kernmem::{Conn, Conns, MemKernel, Numbers, Script};
 use mv_outside::{
     FileAt, Files, Found, FreeGate, Kernel, MemConsole, MemFiles, Sink, VecSink, paths_differ,
 };
@@ -52,6 +52,8 @@ struct Asked<'a> {
     words: &'a [&'a str],
     /// What the operator says at the looks of these numbers, from 0.
     orders: &'a [(usize, &'a str)],
+    /// What comes over the one connection, in one piece; where it is empty, none waits.
+    piece: &'a [u8],
     /// The numbers of the calls that are to fail.
     perform: Option<u64>,
     read: Option<u64>,
@@ -63,6 +65,7 @@ fn words<'a>(words: &'a [&'a str]) -> Asked<'a> {
     Asked {
         words,
         orders: &[],
+        piece: &[],
         perform: None,
         read: None,
         print: None,
@@ -126,9 +129,18 @@ fn console(alloc: Global, orders: &[(usize, &str)]) -> Result<MemConsole, Fail> 
     Ok(MemConsole::new(alloc, lines, Vec::new(alloc), Vec::new(alloc)))
 }
 
-fn kernel(alloc: Global, perform: Option<u64>) -> Result<MemKernel, Fail> {
+fn kernel(alloc: Global, piece: &[u8], perform: Option<u64>) -> Result<MemKernel, Fail> {
+    let mut conns = Vec::new(alloc);
+    if !piece.is_empty() {
+        let mut pieces = Vec::new(alloc);
+        pieces.push(Bytes::from_slice(alloc, piece)?)?;
+        conns.push(Conn {
+            pieces: Texts::from_vec(pieces),
+            ends: true,
+        })?;
+    }
     let script = Script {
-        conns: Conns::from_vec(Vec::new(alloc)),
+        conns: Conns::from_vec(conns),
         clock: Numbers::from_vec(Vec::new(alloc)),
         random: Bytes::from_vec(Vec::new(alloc)),
         fail: Numbers::from_vec(list(alloc, perform)?),
@@ -181,7 +193,7 @@ fn row_of(
     named: &[(&str, &[u8])],
 ) -> Result<Shown, Fail> {
     let said = texts(alloc, asked.words)?;
-    let kernel = kernel(alloc, asked.perform)?;
+    let kernel = kernel(alloc, asked.piece, asked.perform)?;
     let console = console(alloc, asked.orders)?;
     let files = files(rt, alloc, named, asked.read)?;
     let mut sink = VecSink::new(alloc, list(alloc, asked.print)?);
@@ -400,6 +412,68 @@ fn failures_outside_show(rt: HostRuntime) -> Result<(), Fail> {
     Ok(())
 }
 
+/// A guest that accepts a connection and reads from it twice, into a piece of 64 bytes: first with the place for the count three
+/// bytes before the memory's end, then with one in bounds. Its code is the errno of the first read and the count of the second.
+const READER: &[u8; 225] = b"\0asm\x01\0\0\0\
+\x01\x17\x04\x60\x04\x7f\x7f\x7f\x7f\x01\x7f\x60\x01\x7f\x00\x60\x00\x00\x60\x03\x7f\x7f\x7f\x01\x7f\
+\x02\x6a\x03\x16wasi_snapshot_preview1\x07fd_read\x00\x00\x16wasi_snapshot_preview1\x09proc_exit\x00\x01\
+\x16wasi_snapshot_preview1\x0bsock_accept\x00\x03\
+\x03\x02\x01\x02\x05\x03\x01\x00\x01\x07\x0a\x01\x06_start\x00\x03\
+\x0a\x2d\x01\x2b\x00\x41\x03\x41\x00\x41\xe4\x00\x10\x02\x1a\
+\x41\x04\x41\x00\x41\x01\x41\xfd\xff\x03\x10\x00\
+\x41\x04\x41\x00\x41\x01\x41\x14\x10\x00\x1a\
+\x41\x14\x28\x02\x00\x6a\x10\x01\x0b\
+\x0b\x0e\x01\x00\x41\x00\x0b\x08\x40\x00\x00\x00\x40\x00\x00\x00";
+
+#[test]
+fn a_read_without_a_place_for_its_count_takes_nothing(rt: HostRuntime) -> Result<(), Fail> {
+    let mut asked = words(&["run", "reader"]);
+    asked.piece = b"0123456789";
+    let row = row_of(&rt, rt.alloc(), asked, &[("reader", READER)])?;
+    // Errno 21, and ten bytes; the calls are the accept and one read.
+    assert!(rt; row.line.as_slice() == b"ended 31\n".as_slice());
+    assert!(rt; row.done == 2 && row.log.as_slice() == b"CCE".as_slice());
+    Ok(())
+}
+
+#[test]
+fn each_fault_of_a_start_is_told(rt: HostRuntime) -> Result<(), Fail> {
+    let unknown = b"\0asm\x01\0\0\0\x01\x04\x01\x60\0\0\x02\x07\x01\x01x\x01y\0\0".as_slice();
+    // `fd_close` without a parameter.
+    let mistyped = b"\0asm\x01\0\0\0\x01\x04\x01\x60\0\0\
+\x02\x23\x01\x16wasi_snapshot_preview1\x08fd_close\0\0"
+        .as_slice();
+    // A function at 1 of a table of one entry.
+    let element = b"\0asm\x01\0\0\0\x01\x04\x01\x60\0\0\x03\x02\x01\0\x04\x04\x01\x70\0\x01\
+\x07\x0a\x01\x06_start\0\0\x09\x07\x01\0\x41\x01\x0b\x01\0\x0a\x04\x01\x02\0\x0b"
+        .as_slice();
+    // A byte behind the end of one page.
+    let data = b"\0asm\x01\0\0\0\x01\x04\x01\x60\0\0\x03\x02\x01\0\x05\x03\x01\0\x01\
+\x07\x0a\x01\x06_start\0\0\x0a\x04\x01\x02\0\x0b\x0b\x09\x01\0\x41\x80\x80\x04\x0b\x01a"
+        .as_slice();
+    // A start function of `unreachable`.
+    let trap = b"\0asm\x01\0\0\0\x01\x04\x01\x60\0\0\x03\x02\x01\0\
+\x07\x0a\x01\x06_start\0\0\x08\x01\0\x0a\x05\x01\x03\0\0\x0b"
+        .as_slice();
+    let rows = [
+        (unknown, b"mv: guest: UnknownImport 0\n".as_slice()),
+        (mistyped, b"mv: guest: ImportType 0\n".as_slice()),
+        (element, b"mv: guest: ElementBounds 0\n".as_slice()),
+        (data, b"mv: guest: DataBounds 0\n".as_slice()),
+        (trap, b"mv: guest: Unreachable\n".as_slice()),
+    ];
+    for (module, line) in rows {
+        let row = row_of(
+            &rt,
+            rt.alloc(),
+            words(&["run", "guest"]),
+            &[("guest", module)],
+        )?;
+        assert!(rt; row.status == 4 && row.line.as_slice() == line && row.log.is_empty());
+    }
+    Ok(())
+}
+
 /// The schedule whose beats are leader, carry, three steps, judgement, eight times.
 const BLOCKS: &[u8] = b"LCFFFJ LCFFFJ LCFFFJ LCFFFJ\nLCFFFJ LCFFFJ LCFFFJ LCFFFJ\n";
 
@@ -453,7 +527,7 @@ fn of_program<R: Threads + Wait + Sync>(
     files: MemFiles,
 ) -> Result<Shown, Fail> {
     let said = texts(alloc, asked.words)?;
-    let kernel = kernel(alloc, asked.perform)?;
+    let kernel = kernel(alloc, asked.piece, asked.perform)?;
     let console = console(alloc, asked.orders)?;
     let gate = FreeGate::new();
     let mut sink = VecSink::new(alloc, Vec::new(alloc));
