@@ -1,6 +1,6 @@
 //! A console that an operator reaches by a connection.
-ghost use Rattle.std.specs.Prelude.{◌≡◌, ◌≤◌, ◌-◌, IfOk, None, false, length, vec_len, vec_capacity};
-ghost use Rattle.mv_outside.specs.Console.{line_limit, IfLine};
+ghost use Rattle.std.specs.Prelude.{◌≡◌, ◌≤◌, ◌-◌, IfOk, IfSome, None, false, length, vec_len, vec_capacity};
+ghost use Rattle.mv_outside.specs.Console.{line_limit};
 ghost use Rattle.mv_kernnet.specs.NetConsole.{ConsoleSeen};
 
 use crate::door::{Arrival, Door};
@@ -83,29 +83,25 @@ impl<'a, R: Net> NetConsole<'a, R> {
         self.replies.clear();
     }
 
-    /// What the operator has sent, after he was told all that is to be said.
-    fn hear(&mut self, alloc: Global) -> io::Result<Line>
-        ensures short { IfOk result (λ found. IfLine found (λ line. length line ≤ line_limit)) }
+    /// The operator's next line, after he was told all that is to be said; none where it hasn't come
+    /// whole. An error is that of his connection, or want of memory, which leaves the line waiting.
+    fn hear(&mut self, alloc: Global) -> io::Result<Option<Bytes>>
+        ensures short { IfOk result (λ found. IfSome found (λ line. length line ≤ line_limit)) }
         ensures room { self.old.room ≤ self.new.room }
         ensures faults { self.new.faults ≡ self.old.faults }
         ensures ended { self.new.ended ≡ self.old.ended }
     {
         let Some(operator) = &mut self.operator else {
-            return Ok(Line::Idle);
+            return Ok(None);
         };
         if !self.replies.send(operator)? {
-            return Ok(Line::Idle);
+            return Ok(None);
         }
-        if self.heard.reserve().is_err() {
-            return Ok(Line::Memory);
-        }
+        self.heard.reserve()?;
         if !self.heard.read_on(operator)? {
-            return Ok(Line::Idle);
+            return Ok(None);
         }
-        match self.heard.take(alloc) {
-            Ok(line) => Ok(Line::Line(line)),
-            Err(OutOfMemory) => Ok(Line::Memory),
-        }
+        Ok(Some(self.heard.take(alloc)?))
     }
 }
 
@@ -130,11 +126,15 @@ impl<R: Net> Console for NetConsole<'_, R> {
             return Line::Failed;
         }
         match self.hear(alloc) {
-            Ok(found) => found,
-            Err(_) => {
-                self.drop_operator();
-                Line::Idle
-            }
+            Ok(Some(line)) => Line::Line(line),
+            Ok(None) => Line::Idle,
+            Err(error) => match error.kind() {
+                io::ErrorKind::OutOfMemory => Line::Memory,
+                _ => {
+                    self.drop_operator();
+                    Line::Idle
+                }
+            },
         }
     }
 

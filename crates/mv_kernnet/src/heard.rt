@@ -1,9 +1,9 @@
 //! The line that an operator is sending.
-ghost use Rattle.std.specs.Prelude.{◌≡◌, ◌≤◌, IfOk, OnOk, length, vec_len, vec_capacity};
+ghost use Rattle.std.specs.Prelude.{◌≤◌, IfOk, length};
 ghost use Rattle.mv_outside.specs.Console.{line_limit};
 
-use mv_calls::{Bytes, OutOfMemory};
-use std::alloc::Global;
+use mv_calls::Bytes;
+use std::alloc::{AllocError, Global};
 use std::io::{self, Read};
 use std::net::OpenStream;
 
@@ -36,10 +36,9 @@ impl Heard {
     }
 
     /// Makes the memory for the longest line that is kept.
-    pub(crate) fn reserve(&mut self) -> Result<(), OutOfMemory> {
-        self.bytes
-            .reserve(LINE_LIMIT.saturating_sub(self.bytes.len()))?;
-        Ok(())
+    pub(crate) fn reserve(&mut self) -> Result<(), AllocError> {
+        let place = LINE_LIMIT.saturating_sub(self.bytes.len());
+        self.bytes.reserve(place)
     }
 
     /// Reads on, unless the line is whole, and no further than its end. Whether the line is whole then. An
@@ -79,12 +78,12 @@ impl Heard {
     }
 
     /// The line, which is whole; the next one begins. Where there is no memory it stays.
-    pub(crate) fn take(&mut self, alloc: Global) -> Result<Bytes, OutOfMemory>
+    pub(crate) fn take(&mut self, alloc: Global) -> Result<Bytes, AllocError>
         ensures { IfOk result (λ line. length line ≤ line_limit) }
     {
         let kept = self.bytes.len().min(LINE_LIMIT);
-        let line = Bytes::from_slice(alloc, &self.bytes[..kept])?;
+        let line = Vec::from_slice(alloc, &self.bytes[..kept])?;
         self.clear();
-        Ok(line)
+        Ok(Bytes::from_vec(line))
     }
 }

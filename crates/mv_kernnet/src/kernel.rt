@@ -1,5 +1,6 @@
 //! A kernel over the network, the standard streams, the clocks and the random source.
-ghost use Rattle.std.specs.Prelude.{◌≡◌, IfOk, IsTrue, None};
+ghost use Rattle.std.specs.Prelude.{◌≡◌, ◌≤◌, IfOk, IsTrue, None};
+ghost use Rattle.mv_calls.specs.Places.{Holds, places_of};
 ghost use Rattle.mv_calls.specs.Suits.{suits_of};
 ghost use Rattle.mv_calls.specs.declared.calls.Call.TheVariants.{Read as read_call, Write as write_call, Random as random_call, FdStat as stat_call};
 ghost use Rattle.mv_kernnet.specs.NetKernel.{KernelSeen};
@@ -83,8 +84,6 @@ impl<'a, R: Net, I: Read + Drop, O: Write + Drop, E: Write + Drop> NetKernel<'a,
 
 impl<R: Net + Clock + RandomSource, I: Read + Drop, O: Write + Drop, E: Write + Drop> Kernel
     for NetKernel<'_, R, I, O, E> {
-    ghost use Rattle.std.specs.Prelude.{◌≤◌};
-
     ghost done = { λ _. None };
 
     ghost faults = { λ k. k.faults };
@@ -96,7 +95,31 @@ impl<R: Net + Clock + RandomSource, I: Read + Drop, O: Write + Drop, E: Write + 
     }
 
     fn perform(&mut self, call: &Call, room: Room) -> Result<Reply, Failed> {
-        let answer = match call {
+        match self.answer(call, room) {
+            Ok(reply) => Ok(reply),
+            Err(_) => {
+                self.faults = self.faults.saturating_add(1);
+                Err(Failed)
+            }
+        }
+    }
+}
+
+impl<R: Net + Clock + RandomSource, I: Read + Drop, O: Write + Drop, E: Write + Drop> NetKernel<
+    '_,
+    R,
+    I,
+    O,
+    E,
+> {
+    /// What the call is answered. It fails as the kernel does, and counts no fault.
+    fn answer(&mut self, call: &Call, room: Room) -> io::Result<Reply>
+        requires ready { 1 ≤ self.old.places }
+        requires room { Holds room (places_of call.now) }
+        ensures suits { IfOk result (λ reply. IsTrue (suits_of call.now reply)) }
+        ensures faults { self.new.faults ≡ self.old.faults }
+    {
+        match call {
             Call::Clock { id } => clock_reply(self.system, *id),
             Call::Random { len } => random_reply(self.system, *len, room.bytes()),
             Call::Read { fd, cap } => Ok(self.read(*fd, *cap, room.bytes())),
@@ -110,18 +133,9 @@ impl<R: Net + Clock + RandomSource, I: Read + Drop, O: Write + Drop, E: Write + 
             Call::Accept { fd: LISTENER, .. } => self.sockets.accept(),
             Call::Accept { .. } => Ok(Reply::Errno(BADF)),
             Call::Shutdown { fd, how } => Ok(self.sockets.shutdown(*fd, *how)),
-        };
-        match answer {
-            Ok(reply) => Ok(reply),
-            Err(_) => {
-                self.faults = self.faults.saturating_add(1);
-                Err(Failed)
-            }
         }
     }
-}
 
-impl<R: Net, I: Read + Drop, O: Write + Drop, E: Write + Drop> NetKernel<'_, R, I, O, E> {
     /// Reads from a descriptor.
     fn read(&mut self, fd: u32, cap: u32, place: Vec<u8>) -> Reply
         ensures suits { IsTrue (suits_of (read_call fd cap) result) }

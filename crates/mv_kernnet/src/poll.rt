@@ -1,5 +1,5 @@
 //! What `poll_oneoff` waits for.
-ghost use Rattle.std.specs.Prelude.{◌≡◌, ◌≤◌, [], length, IfOk, IsTrue, vec_capacity};
+ghost use Rattle.std.specs.Prelude.{◌≡◌, ◌<◌, ◌≤◌, ◌+◌, [], length, true, IfOk, IsTrue, vec_len, vec_capacity};
 ghost use Rattle.mv_calls.specs.Suits.{suits_of, are_rising, are_below};
 ghost use Rattle.mv_calls.specs.declared.calls.Call.TheVariants.{Poll as poll_call};
 
@@ -55,6 +55,7 @@ pub(crate) fn poll_reply<R: Net + Clock>(
 }
 
 /// Adds an event for each subscription that has come about.
+#[tactic(auto, using(crate::proofs::Events::below_more))]
 fn look<R: Net + Clock>(
     system: &R,
     sockets: &mut Sockets<'_, R>,
@@ -73,19 +74,34 @@ fn look<R: Net + Clock>(
         let Ok(number) = u32::try_from(index) else {
             return Ok(());
         };
-        let (error, nbytes) = match look_at(sockets, sub, began, &now)? {
-            Readiness::Ready { nbytes } => (0, nbytes),
-            Readiness::Broken(error) => (error, 0),
-            Readiness::NotYet => continue,
-        };
-        events.push_reserved(Happened {
-            sub: number,
-            error,
-            nbytes,
-            flags: 0,
-        });
+        let readiness = look_at(sockets, sub, began, &now)?;
+        add(events, number, readiness);
     }
     Ok(())
+}
+
+/// Adds the event of the subscription of this number, where it has come about or never will.
+#[tactic(auto, using(crate::proofs::Events::below_push, crate::proofs::Events::below_more, crate::proofs::Events::rising_push))]
+fn add(events: &mut Vec<Happened>, number: u32, readiness: Readiness)
+    requires rising { are_rising events.old.items ≡ true }
+    requires below { are_below number events.old.items ≡ true }
+    requires place { vec_len events.old < vec_capacity events.old }
+    ensures rising { are_rising events.new.items ≡ true }
+    ensures below { are_below (number + 1) events.new.items ≡ true }
+    ensures longer { vec_len events.new ≤ vec_len events.old + 1 }
+    ensures room { vec_capacity events.new ≡ vec_capacity events.old }
+{
+    let (error, nbytes) = match readiness {
+        Readiness::Ready { nbytes } => (0, nbytes),
+        Readiness::Broken(error) => (error, 0),
+        Readiness::NotYet => return,
+    };
+    events.push_reserved(Happened {
+        sub: number,
+        error,
+        nbytes,
+        flags: 0,
+    });
 }
 
 /// Whether the subscription has come about.
