@@ -23,7 +23,9 @@ pub(crate) struct Connections<S: Drop> {
 
 impl<S: Drop> Connections<S> {
     /// No connections.
-    pub(crate) fn new(alloc: Global) -> Connections<S> {
+    pub(crate) fn new(alloc: Global) -> Connections<S>
+        ensures next { result.next ≡ 4 }
+    {
         Connections {
             open: Vec::new(alloc),
             next: FIRST,
@@ -32,6 +34,7 @@ impl<S: Drop> Connections<S> {
 
     /// Makes the memory for one connection more.
     pub(crate) fn reserve(&mut self) -> Result<(), OutOfMemory>
+        ensures next { self.new.next ≡ self.old.next }
         ensures place { OnOk result (vec_len self.new.open + 1 ≤ vec_capacity self.new.open) }
     {
         self.open.reserve(1)?;
@@ -44,6 +47,7 @@ impl<S: Drop> Connections<S> {
         requires place { vec_len self.old.open < vec_capacity self.old.open }
         ensures fd { IfSome result (λ fd. fd ≡ self.old.next) }
         ensures next { IfSome result (λ fd. self.new.next ≡ fd + 1) }
+        ensures later { self.old.next ≤ self.new.next }
     {
         let fd = self.next;
         self.next = fd.checked_add(1)?;
@@ -51,19 +55,23 @@ impl<S: Drop> Connections<S> {
         Some(fd)
     }
 
-    /// The connection of this descriptor, if it is open.
-    pub(crate) fn find(&mut self, fd: u32) -> Option<&mut S> {
-        let place = self.open.iter().position(|connection| connection.fd == fd)?;
-        match self.open.get_mut(place) {
-            Some(connection) => Some(&mut connection.stream),
-            None => None,
-        }
-    }
-
     /// Closes the connection of this descriptor, and says whether it was open.
-    pub(crate) fn close(&mut self, fd: u32) -> bool {
+    pub(crate) fn close(&mut self, fd: u32) -> bool
+        ensures next { self.new.next ≡ self.old.next }
+    {
         let before = self.open.len();
         self.open.retain(|connection| connection.fd != fd);
         self.open.len() < before
+    }
+}
+
+/// The stream of the open connection of this descriptor, if there is one.
+pub(crate) fn stream_of<S: Drop>(connections: &mut Vec<Connection<S>>, fd: u32) -> Option<&mut S> {
+    let place = connections
+        .iter()
+        .position(|connection| connection.fd == fd)?;
+    match connections.get_mut(place) {
+        Some(connection) => Some(&mut connection.stream),
+        None => None,
     }
 }

@@ -1,6 +1,8 @@
 //! A console that an operator reaches by a connection.
-ghost use Rattle.std.specs.Prelude.{◌≡◌, ◌≤◌, ◌-◌, IfOk, IfSome, None, false, length, vec_len, vec_capacity};
-ghost use Rattle.mv_outside.specs.Console.{line_limit};
+ghost use Rattle.std.specs.Prelude.{◌≡◌, ◌≤◌, ◌-◌, ◌↔◌, IfOk, IfSome, IsOk, OnOk, OnErr, None, true, false, length, vec_len, vec_capacity};
+ghost use Rattle.mv_outside.specs.Console.{line_limit, IfLine, Takes, EndsLines};
+ghost use Rattle.mv_outside.specs.Causes.{Rose};
+ghost use Rattle.mv_outside.specs.Told.{told_more, AddsPart};
 ghost use Rattle.mv_kernnet.specs.NetConsole.{ConsoleSeen};
 
 use crate::door::{Arrival, Door};
@@ -116,7 +118,18 @@ impl<R: Net> Console for NetConsole<'_, R> {
 
     ghost ended = { λ c. c.ended };
 
-    fn next(&mut self, alloc: Global) -> Line {
+    fn next(&mut self, alloc: Global) -> Line
+        ensures taken { Takes None result None }
+        ensures short { IfLine result (λ line. length line ≤ line_limit) }
+        ensures ended { EndsLines self.old.ended result self.new.ended }
+        ensures room { IfLine result (λ _. self.old.room ≤ self.new.room) }
+        ensures later { self.old.faults ≤ self.new.faults }
+        ensures cause { result ≡ Line.Failed → Rose self.old.faults self.new.faults }
+        // It fails once, and is closed exactly from then on. Its count rises at no other time.
+        ensures closed { (result ≡ Line.Closed) ↔ (self.old.ended ≡ true) }
+        ensures failed { result ≡ Line.Failed ↔ (self.old.ended ≡ false × self.new.ended ≡ true) }
+        ensures well { (result ≡ Line.Failed → ⊥) → self.new.faults ≡ self.old.faults }
+    {
         if self.has_failed {
             return Line::Closed;
         }
@@ -138,12 +151,26 @@ impl<R: Net> Console for NetConsole<'_, R> {
         }
     }
 
-    fn prepare(&mut self, _alloc: Global, len: usize) -> Result<(), OutOfMemory> {
+    fn prepare(&mut self, _alloc: Global, len: usize) -> Result<(), OutOfMemory>
+        ensures room { OnOk result (len ≤ self.new.room) }
+        ensures ended { self.new.ended ≡ self.old.ended }
+        ensures later { self.old.faults ≤ self.new.faults }
+        ensures well { self.new.faults ≡ self.old.faults }
+    {
         self.replies.reserve(len)
     }
 
     /// It never fails: an error of the operator's connection drops him.
-    fn say(&mut self, line: &[u8]) -> Result<(), Failed> {
+    fn say(&mut self, line: &[u8]) -> Result<(), Failed>
+        requires { length line.now ≤ self.old.room }
+        ensures ok { OnOk result (None ≡ told_more None line.now) }
+        ensures part { OnErr result (AddsPart None line.now None) }
+        ensures ended { self.new.ended ≡ self.old.ended }
+        ensures later { self.old.faults ≤ self.new.faults }
+        ensures cause { OnErr result (Rose self.old.faults self.new.faults) }
+        ensures sure { IsOk result }
+        ensures well { self.new.faults ≡ self.old.faults }
+    {
         let Some(operator) = &mut self.operator else {
             return Ok(());
         };

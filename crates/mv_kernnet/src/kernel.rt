@@ -1,11 +1,15 @@
 //! A kernel over the network, the standard streams, the clocks and the random source.
-ghost use Rattle.std.specs.Prelude.{◌≡◌, ◌≤◌, IfOk, IsTrue, None};
+ghost use Rattle.std.specs.Prelude.{◌≡◌, ◌≤◌, ◌∷◌, [], IfOk, IsTrue, None, OnOk, OnErr};
+ghost use Rattle.mv_calls.specs.declared.calls.Item.{Item};
 ghost use Rattle.mv_calls.specs.Places.{Holds, places_of};
 ghost use Rattle.mv_calls.specs.Suits.{suits_of};
 ghost use Rattle.mv_calls.specs.declared.calls.Call.TheVariants.{Read as read_call, Write as write_call, Random as random_call, FdStat as stat_call};
-ghost use Rattle.mv_kernnet.specs.NetKernel.{KernelSeen};
+ghost use Rattle.mv_kernnet.specs.NetKernel.{KernelSeen, IfFd, IsNext, may_fail, listener};
+ghost use Rattle.mv_outside.specs.Causes.{Rose};
+ghost use Rattle.mv_outside.specs.Told.{told_more};
 
 use crate::clocks::clock_reply;
+use crate::connections::stream_of;
 use crate::errno::{BADF, IO};
 use crate::poll::poll_reply;
 use crate::sockets::{LISTENER, Sockets};
@@ -56,6 +60,7 @@ impl<'a, R: Net, I: Read + Drop, O: Write + Drop, E: Write + Drop> Model
     ghost view = { λ k. record {
       faults = k.faults;
       places = vec_capacity k.sockets.connections.open - vec_len k.sockets.connections.open;
+      next = k.sockets.connections.next;
     } };
 }
 
@@ -69,7 +74,8 @@ impl<'a, R: Net, I: Read + Drop, O: Write + Drop, E: Write + Drop> NetKernel<'a,
         out: O,
         err: E,
     ) -> NetKernel<'a, R, I, O, E>
-        ensures { result.faults ≡ 0 }
+        ensures faults { result.faults ≡ 0 }
+        ensures next { result.next ≡ 4 }
     {
         NetKernel {
             system,
@@ -90,11 +96,29 @@ impl<R: Net + Clock + RandomSource, I: Read + Drop, O: Write + Drop, E: Write + 
 
     ghost ready_for = { λ k _. 1 ≤ k.places };
 
-    fn ready(&mut self, _alloc: Global, _call: &Call) -> Result<(), OutOfMemory> {
+    fn ready(&mut self, _alloc: Global, _call: &Call) -> Result<(), OutOfMemory>
+        ensures ready { OnOk result (1 ≤ self.new.places) }
+        ensures faults { self.new.faults ≡ self.old.faults }
+        ensures next { self.new.next ≡ self.old.next }
+    {
         self.sockets.connections.reserve()
     }
 
-    fn perform(&mut self, call: &Call, room: Room) -> Result<Reply, Failed> {
+    fn perform(&mut self, call: &Call, room: Room) -> Result<Reply, Failed>
+        requires ready { 1 ≤ self.old.places }
+        requires room { Holds room (places_of call.now) }
+        ensures suits { IfOk result (λ reply. IsTrue (suits_of call.now reply)) }
+        ensures did { IfOk result (λ reply. None ≡ told_more {A = Item} None ((call.now, reply) ∷ [])) }
+        ensures did_not { OnErr result (None ≡ told_more {A = Item} None []) }
+        ensures later { self.old.faults ≤ self.new.faults }
+        ensures cause { OnErr result (Rose self.old.faults self.new.faults) }
+        // It fails only at these calls, and its count rises at no other time.
+        ensures named { OnErr result (IsTrue (may_fail call.now)) }
+        ensures well { OnOk result (self.new.faults ≡ self.old.faults) }
+        // No descriptor is given twice.
+        ensures fresh { IfOk result (λ reply. IfFd reply (λ fd. IsNext self.old.next fd self.new.next)) }
+        ensures given { self.old.next ≤ self.new.next }
+    {
         match self.answer(call, room) {
             Ok(reply) => Ok(reply),
             Err(_) => {
@@ -117,6 +141,9 @@ impl<R: Net + Clock + RandomSource, I: Read + Drop, O: Write + Drop, E: Write + 
         requires ready { 1 ≤ self.old.places }
         requires room { Holds room (places_of call.now) }
         ensures suits { IfOk result (λ reply. IsTrue (suits_of call.now reply)) }
+        ensures named { OnErr result (IsTrue (may_fail call.now)) }
+        ensures fresh { IfOk result (λ reply. IfFd reply (λ fd. IsNext self.old.next fd self.new.next)) }
+        ensures given { self.old.next ≤ self.new.next }
         ensures faults { self.new.faults ≡ self.old.faults }
     {
         match call {
@@ -139,12 +166,13 @@ impl<R: Net + Clock + RandomSource, I: Read + Drop, O: Write + Drop, E: Write + 
     /// Reads from a descriptor.
     fn read(&mut self, fd: u32, cap: u32, place: Vec<u8>) -> Reply
         ensures suits { IsTrue (suits_of (read_call fd cap) result) }
+        ensures next { self.new.next ≡ self.old.next }
         ensures faults { self.new.faults ≡ self.old.faults }
     {
         if fd == 0 {
             return read_reply(&mut self.input, cap, place);
         }
-        match self.sockets.connections.find(fd) {
+        match stream_of(&mut self.sockets.connections.open, fd) {
             Some(stream) => read_reply(stream, cap, place),
             None => Reply::Errno(BADF),
         }
@@ -153,12 +181,13 @@ impl<R: Net + Clock + RandomSource, I: Read + Drop, O: Write + Drop, E: Write + 
     /// Writes to a descriptor.
     fn write(&mut self, fd: u32, bytes: &Bytes) -> Reply
         ensures suits { IsTrue (suits_of (write_call fd bytes.now) result) }
+        ensures next { self.new.next ≡ self.old.next }
         ensures faults { self.new.faults ≡ self.old.faults }
     {
         match fd {
             1 => write_reply(&mut self.out, bytes),
             2 => write_reply(&mut self.err, bytes),
-            _ => match self.sockets.connections.find(fd) {
+            _ => match stream_of(&mut self.sockets.connections.open, fd) {
                 Some(stream) => write_reply(stream, bytes),
                 None => Reply::Errno(BADF),
             },
@@ -168,6 +197,8 @@ impl<R: Net + Clock + RandomSource, I: Read + Drop, O: Write + Drop, E: Write + 
     /// What a descriptor is. It fails where the listener is asked for and can't be bound.
     fn stat(&mut self, fd: u32) -> io::Result<Reply>
         ensures suits { IfOk result (λ reply. IsTrue (suits_of (stat_call fd) reply)) }
+        ensures named { OnErr result (fd ≡ listener) }
+        ensures next { self.new.next ≡ self.old.next }
         ensures faults { self.new.faults ≡ self.old.faults }
     {
         match fd {
@@ -176,7 +207,7 @@ impl<R: Net + Clock + RandomSource, I: Read + Drop, O: Write + Drop, E: Write + 
                 self.sockets.door.open()?;
                 Ok(stat_reply(STREAM_SOCKET))
             }
-            _ => match self.sockets.connections.find(fd) {
+            _ => match stream_of(&mut self.sockets.connections.open, fd) {
                 Some(_) => Ok(stat_reply(STREAM_SOCKET)),
                 None => Ok(Reply::Errno(BADF)),
             },

@@ -4,6 +4,7 @@ ghost use Rattle.mv_calls.specs.Suits.{suits_of, are_rising, are_below};
 ghost use Rattle.mv_calls.specs.declared.calls.Call.TheVariants.{Poll as poll_call};
 
 use crate::clocks::Moment;
+use crate::connections::stream_of;
 use crate::door::Arrival;
 use crate::errno::{BADF, INVAL, IO};
 use crate::sockets::{LISTENER, Sockets};
@@ -40,7 +41,8 @@ pub(crate) fn poll_reply<R: Net + Clock>(
 ) -> io::Result<Reply>
     requires empty { place.items ≡ [] }
     requires room { length subs.now ≤ vec_capacity place }
-    ensures { IfOk result (λ reply. IsTrue (suits_of (poll_call subs.now) reply)) }
+    ensures suits { IfOk result (λ reply. IsTrue (suits_of (poll_call subs.now) reply)) }
+    ensures next { sockets.new.connections.next ≡ sockets.old.connections.next }
 {
     let mut events = place;
     let began = Moment::now(system)?;
@@ -68,6 +70,7 @@ fn look<R: Net + Clock>(
     ensures rising { are_rising events.new.items ≡ true }
     ensures below { are_below (length subs.now) events.new.items ≡ true }
     ensures room { vec_capacity events.new ≡ vec_capacity events.old }
+    ensures next { sockets.new.connections.next ≡ sockets.old.connections.next }
 {
     let now = Moment::now(system)?;
     for (index, sub) in subs.iter().enumerate() {
@@ -110,7 +113,9 @@ fn look_at<R: Net>(
     sub: &Sub,
     began: &Moment,
     now: &Moment,
-) -> io::Result<Readiness> {
+) -> io::Result<Readiness>
+    ensures next { sockets.new.connections.next ≡ sockets.old.connections.next }
+{
     match sub {
         Sub::Clock { id, timeout, flags } => Ok(clock_readiness(began, now, *id, *timeout, *flags)),
         Sub::Read { fd: LISTENER } => Ok(match sockets.door.look()? {
@@ -134,11 +139,13 @@ fn clock_readiness(began: &Moment, now: &Moment, id: u32, timeout: u64, flags: u
 
 /// Whether bytes of a connection, or its end, can be read. Of the standard streams this can't be told
 /// without waiting.
-fn read_readiness<R: Net>(sockets: &mut Sockets<'_, R>, fd: u32) -> Readiness {
+fn read_readiness<R: Net>(sockets: &mut Sockets<'_, R>, fd: u32) -> Readiness
+    ensures next { sockets.new.connections.next ≡ sockets.old.connections.next }
+{
     if fd < LISTENER {
         return Readiness::NotYet;
     }
-    let Some(stream) = sockets.connections.find(fd) else {
+    let Some(stream) = stream_of(&mut sockets.connections.open, fd) else {
         return Readiness::Broken(BADF);
     };
     match stream.peek(&mut [0]) {
@@ -152,11 +159,13 @@ fn read_readiness<R: Net>(sockets: &mut Sockets<'_, R>, fd: u32) -> Readiness {
 
 /// Whether the descriptor takes bytes: standard output and error, and each connection, which says by
 /// errno 6 of the write where it takes none.
-fn write_readiness<R: Net>(sockets: &mut Sockets<'_, R>, fd: u32) -> Readiness {
+fn write_readiness<R: Net>(sockets: &mut Sockets<'_, R>, fd: u32) -> Readiness
+    ensures next { sockets.new.connections.next ≡ sockets.old.connections.next }
+{
     match fd {
         1 | 2 => Readiness::Ready { nbytes: 0 },
         0 | LISTENER => Readiness::NotYet,
-        _ => match sockets.connections.find(fd) {
+        _ => match stream_of(&mut sockets.connections.open, fd) {
             Some(_) => Readiness::Ready { nbytes: 0 },
             None => Readiness::Broken(BADF),
         },
