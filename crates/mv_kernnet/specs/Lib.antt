@@ -1,0 +1,2 @@
+pub mod NetConsole
+pub mod NetKernel
