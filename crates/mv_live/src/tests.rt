@@ -1,14 +1,13 @@
 //! The program over objects in memory, and its own objects.
 
 use crate::disk_files::DiskFiles;
-use crate::streams::Streams;
 use crate::writer_sink::WriterSink;
-use mv_calls::{Bytes, Call, Item, OutOfMemory, Reply, Room, Texts};
+use mv_calls::{Bytes, Call, Item, Reply, Texts};
 use mv_commands::{carry_out, program};
 use mv_history::{Entry, Mark};
 use mv_kernmem::{Conn, Conns, MemKernel, Numbers, Script};
 use mv_outside::{
-    FileAt, Files, Found, FreeGate, Kernel, MemConsole, MemFiles, Sink, VecSink, paths_differ,
+    FileAt, Files, Found, FreeGate, MemConsole, MemFiles, Sink, VecSink, paths_differ,
 };
 use mv_reader::read_module;
 use mv_writer::write_module;
@@ -583,33 +582,6 @@ impl io::Write for Broken {
     fn flush(&mut self) -> io::Result<()> {
         Ok(())
     }
-}
-
-/// What the kernel answers to a write of `hi` with a line feed.
-fn answer<K: Kernel>(alloc: Global, kernel: &mut K, fd: u32) -> Result<Option<Reply>, OutOfMemory> {
-    let bytes = Bytes::from_slice(alloc, b"hi\n")?;
-    let call = Call::Write { fd, bytes };
-    kernel.ready(alloc, &call)?;
-    let room = Room::make(alloc, &call)?;
-    Ok(kernel.perform(&call, room).ok())
-}
-
-/// What a write of `hi` to the descriptor was answered: the count, or the errno.
-fn answered(alloc: Global, fd: u32) -> Result<(u32, u16), Fail> {
-    let mut kernel = Streams::new(Vec::new(alloc), Broken);
-    match answer(alloc, &mut kernel, fd)? {
-        Some(Reply::Count(count)) => Ok((count, 0)),
-        Some(Reply::Errno(errno)) => Ok((0, errno)),
-        _ => Err("no reply")?,
-    }
-}
-
-#[test]
-fn streams_answer_their_errors(rt: HostRuntime) -> Result<(), Fail> {
-    assert_eq!(rt; answered(rt.alloc(), 1)?, (3, 0));
-    assert_eq!(rt; answered(rt.alloc(), 2)?, (0, 29));
-    assert_eq!(rt; answered(rt.alloc(), 3)?, (0, 8));
-    Ok(())
 }
 
 #[test]
