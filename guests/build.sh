@@ -3,5 +3,13 @@
 # floating point. What it makes stands in the repository, so nothing else needs a C compiler.
 set -eu
 cd "$(dirname "$0")"
-clang --target=wasm32-wasi -mcpu=mvp -O2 -Wl,--strip-all -o ../crates/mv_live/data/args.wasm args.c \
-    -lc-printscan-no-floating-point
+data=../crates/mv_live/data
+clang --target=wasm32-wasi -mcpu=mvp -O2 -Wl,--strip-all -o "$data/args.wasm" args.c -lc-printscan-no-floating-point
+# The stack lies below 8,192 and the globals from 16,384 on.
+server() {
+    clang --target=wasm32 -mcpu=mvp -O2 -nostdlib -ffreestanding -Wl,--no-entry -Wl,--strip-all -Wl,--stack-first \
+        -Wl,-z,stack-size=8192 -Wl,--global-base=16384 "$@" echo.c
+}
+server -o "$data/echo.wasm"
+server -DREPLY='"+OK\n"' -o "$data/plus.wasm"
+chmod 644 "$data"/*.wasm
