@@ -155,6 +155,10 @@ fn letter(entry: &Entry) -> u8 {
         Entry::Order { .. } => b'O',
         Entry::Mark(Mark::Fork { .. }) => b'F',
         Entry::Mark(Mark::Discard { .. }) => b'D',
+        Entry::Mark(Mark::Hand { .. }) => b'H',
+        Entry::Mark(Mark::Promote) => b'N',
+        Entry::Mark(Mark::Back) => b'B',
+        Entry::Mark(Mark::Finish) => b'A',
         Entry::Mark(Mark::End { .. }) => b'E',
         Entry::Mark(_) => b'x',
     }
@@ -473,8 +477,9 @@ fn each_fault_of_a_start_is_told(rt: HostRuntime) -> Result<(), Fail> {
     Ok(())
 }
 
-/// The schedule whose beats are leader, carry, three steps, judgement, eight times.
-const BLOCKS: &[u8] = b"LCFFFJ LCFFFJ LCFFFJ LCFFFJ\nLCFFFJ LCFFFJ LCFFFJ LCFFFJ\n";
+/// The schedule whose beats are leader, carry, three steps, judgement, twelve times.
+const BLOCKS: &[u8] =
+    b"LCFFFJ LCFFFJ LCFFFJ LCFFFJ LCFFFJ LCFFFJ\nLCFFFJ LCFFFJ LCFFFJ LCFFFJ LCFFFJ LCFFFJ\n";
 
 #[test]
 fn updates_are_rehearsed(rt: HostRuntime) -> Result<(), Fail> {
@@ -484,7 +489,8 @@ fn updates_are_rehearsed(rt: HostRuntime) -> Result<(), Fail> {
     other[last] = b'o';
     let update = (0, "update new none none");
     let differs = (0, "update other none none");
-    let rows: [(&[(usize, &str)], &str, &[u8], &[u8]); 5] = [
+    let promote = (2, "promote");
+    let rows: [(&[(usize, &str)], &str, &[u8], &[u8]); 8] = [
         // Nobody orders.
         (&[], "blocks", b"PCPE", b"ended 0\n"),
         // The new version makes equal calls.
@@ -496,6 +502,22 @@ fn updates_are_rehearsed(rt: HostRuntime) -> Result<(), Fail> {
             &[update, (2, "discard")],
             "blocks",
             b"OFODPCPE",
+            b"ended 0\n",
+        ),
+        // The new version leads: behind its point the write is its own.
+        (&[update, promote], "blocks", b"OFOHNCPE", b"ended 0\n"),
+        // It leads alone.
+        (
+            &[update, promote, (4, "finish")],
+            "blocks",
+            b"OFOHNOACPE",
+            b"ended 0\n",
+        ),
+        // The old version leads again: it took the new one's write for its own.
+        (
+            &[update, promote, (4, "back")],
+            "blocks",
+            b"OFOHNOCHBPE",
             b"ended 0\n",
         ),
         // The schedule ends before the log does.
@@ -514,6 +536,8 @@ fn updates_are_rehearsed(rt: HostRuntime) -> Result<(), Fail> {
         asked.orders = orders;
         let row = row_of(&rt, alloc, asked, &named)?;
         assert!(rt; row.status == 0 && row.log.as_slice() == log && row.line.as_slice() == line);
+        // In each run that ends, `hi` is written once.
+        assert!(rt; row.says_hi == (schedule == "blocks") && row.done <= 1);
     }
     Ok(())
 }
