@@ -71,12 +71,24 @@ fn words<'a>(words: &'a [&'a str]) -> Asked<'a> {
     }
 }
 
+/// These words, where nothing fails and the operator orders so.
+fn ordered<'a>(words: &'a [&'a str], orders: &'a [(usize, &'a str)]) -> Asked<'a> {
+    Asked {
+        words,
+        orders,
+        piece: &[],
+        perform: None,
+        read: None,
+        print: None,
+    }
+}
+
 /// What a run showed.
 #[derive(Drop)]
 struct Shown {
     status: u8,
     line: Vec<u8>,
-    /// A letter for each entry: C a call, P a point, O an order, F a fork, D a discard, E the end, and x any other.
+    /// A letter for each entry, as `letter` gives it.
     log: Vec<u8>,
     /// How many calls the kernel did, and whether the first is the write of `hi`, taken whole.
     done: usize,
@@ -120,7 +132,7 @@ fn files(
 fn console(alloc: Global, orders: &[(usize, &str)]) -> Result<MemConsole, Fail> {
     let mut lines = Vec::new(alloc);
     for (look, line) in orders {
-        while lines.len() < *look {
+        for _ in lines.len()..*look {
             lines.push(None)?;
         }
         lines.push(Some(Bytes::from_slice(alloc, line.as_bytes())?))?;
@@ -236,9 +248,10 @@ fn changed_guests_run(rt: HostRuntime) -> Result<(), Fail> {
     // The iovecs stand at -3: errno 21, and no call.
     let iovecs = changed(alloc, IOVS, 0x7d)?;
     // The size of the memory section, which is 3, in five bytes.
-    let mut padded = Vec::from_slice(alloc, &HELLO[..103])?;
+    let hello = HELLO.as_slice();
+    let mut padded = Vec::from_slice(alloc, &hello[..103])?;
     padded.extend_from_slice(b"\x83\x80\x80\x80\x00")?;
-    padded.extend_from_slice(&HELLO[104..])?;
+    padded.extend_from_slice(&hello[104..])?;
     let rows = [
         (code.as_slice(), 1, b"ended 7\n".as_slice(), 1),
         (iovecs.as_slice(), 0, b"ended 0\n".as_slice(), 0),
@@ -487,41 +500,53 @@ fn updates_are_rehearsed(rt: HostRuntime) -> Result<(), Fail> {
     let mut other = Vec::from_slice(alloc, VERSION)?;
     let last = other.len() - 2;
     other[last] = b'o';
-    let update = (0, "update new none none");
-    let differs = (0, "update other none none");
-    let promote = (2, "promote");
     let rows: [(&[(usize, &str)], &str, &[u8], &[u8]); 8] = [
         // Nobody orders.
         (&[], "blocks", b"PCPE", b"ended 0\n"),
         // The new version makes equal calls.
-        (&[update], "blocks", b"OFPCPE", b"ended 0\n"),
+        (
+            &[(0, "update new none none")],
+            "blocks",
+            b"OFPCPE",
+            b"ended 0\n",
+        ),
         // It writes `ho` where the leader wrote `hi`.
-        (&[differs], "blocks", b"OFPCDPE", b"ended 0\n"),
+        (
+            &[(0, "update other none none")],
+            "blocks",
+            b"OFPCDPE",
+            b"ended 0\n",
+        ),
         // The operator gives it up.
         (
-            &[update, (2, "discard")],
+            &[(0, "update new none none"), (2, "discard")],
             "blocks",
             b"OFODPCPE",
             b"ended 0\n",
         ),
         // The new version leads: behind its point the write is its own.
-        (&[update, promote], "blocks", b"OFOHNCPE", b"ended 0\n"),
+        (
+            &[(0, "update new none none"), (2, "promote")],
+            "blocks",
+            b"OFOHNCPE",
+            b"ended 0\n",
+        ),
         // It leads alone.
         (
-            &[update, promote, (4, "finish")],
+            &[(0, "update new none none"), (2, "promote"), (4, "finish")],
             "blocks",
             b"OFOHNOACPE",
             b"ended 0\n",
         ),
         // The old version leads again: it took the new one's write for its own.
         (
-            &[update, promote, (4, "back")],
+            &[(0, "update new none none"), (2, "promote"), (4, "back")],
             "blocks",
             b"OFOHNOCHBPE",
             b"ended 0\n",
         ),
         // The schedule ends before the log does.
-        (&[update], "once", b"OE", b"cut\n"),
+        (&[(0, "update new none none")], "once", b"OE", b"cut\n"),
     ];
     for (orders, schedule, log, line) in rows {
         let named = [
@@ -532,9 +557,7 @@ fn updates_are_rehearsed(rt: HostRuntime) -> Result<(), Fail> {
             ("once", b"L".as_slice()),
         ];
         let said = ["rehearse", "old", schedule];
-        let mut asked = words(&said);
-        asked.orders = orders;
-        let row = row_of(&rt, alloc, asked, &named)?;
+        let row = row_of(&rt, alloc, ordered(&said, orders), &named)?;
         assert!(rt; row.status == 0 && row.log.as_slice() == log && row.line.as_slice() == line);
         // In each run that ends, `hi` is written once.
         assert!(rt; row.says_hi == (schedule == "blocks") && row.done <= 1);
@@ -586,9 +609,10 @@ fn the_program_runs_and_serves(rt: HostRuntime) -> Result<(), Fail> {
     assert!(rt; row.status == 0 && row.log.as_slice() == b"CE".as_slice());
     // The update's follower runs beside the leader, in another thread.
     let named = [("old", VERSION.as_slice()), ("new", VERSION.as_slice())];
-    let mut asked = words(&["serve", "old", "--ring", "16"]);
-    let orders = [(0, "update new none none")];
-    asked.orders = &orders;
+    let asked = ordered(
+        &["serve", "old", "--ring", "16"],
+        &[(0, "update new none none")],
+    );
     let row = of_program(&rt, alloc, asked, files(&rt, alloc, &named, None)?)?;
     assert!(rt; row.status == 0 && row.log.as_slice() == b"OFPCPE".as_slice() && row.says_hi);
     Ok(())
