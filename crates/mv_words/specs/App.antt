@@ -17,4 +17,5 @@ abbrev pub plain_app : Text → App
 plain_app name = on_top (λ s. record s { disable_help_flag = true }) (new_app name)
 
 abbrev pub words_app : App
-words_app = with_rule (with_rule (plain_app (codes "mv")) (option_rule (codes "ring"))) (rest_rule (codes "places"))
+words_app =
+    with_rule (with_rule (with_rule (with_rule (with_rule (plain_app (codes "mv")) (option_rule (codes "ring"))) (option_rule (codes "log"))) (option_rule (codes "listen"))) (option_rule (codes "console"))) (rest_rule (codes "places"))

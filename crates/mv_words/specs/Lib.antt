@@ -3,3 +3,4 @@ pub mod Words
 pub mod Commands
 pub mod Hyphens
 pub mod App
+pub mod Given

@@ -2,7 +2,8 @@
 
 use mv_calls::{Bytes, Texts};
 
-/// What a command line asks for, with its words (docs/GUIDE.md, "Words").
+/// What a command line asks for, with its words (docs/GUIDE.md, "Words"). The addresses that `run`, `rehearse` and `serve` may
+/// name are what `places` gives.
 #[derive(Debug, Drop)]
 pub enum Command {
     /// `run OLD [ARG ..]`.
@@ -10,18 +11,20 @@ pub enum Command {
         old: Bytes,
         args: Texts,
     },
-    /// `rehearse OLD SCHEDULE [ARG ..] [--ring N]`; `ring` is 4 to 4,096.
+    /// `rehearse OLD SCHEDULE [ARG ..] [--ring N] [--log PATH]`; `ring` is 4 to 4,096.
     Rehearse {
         old: Bytes,
         schedule: Bytes,
         args: Texts,
         ring: u32,
+        log: Option<Bytes>,
     },
-    /// `serve OLD [ARG ..] [--ring N]`; `ring` is 4 to 4,096.
+    /// `serve OLD [ARG ..] [--ring N] [--log PATH]`; `ring` is 4 to 4,096.
     Serve {
         old: Bytes,
         args: Texts,
         ring: u32,
+        log: Option<Bytes>,
     },
     /// `check MODULE`.
     Check {
@@ -30,6 +33,16 @@ pub enum Command {
     /// `rules FWD`.
     Rules {
         forward: Bytes,
+    },
+    /// `audit LOG OLD [M FWD REV ..]`; the files of the updates come in threes.
+    Audit {
+        log: Bytes,
+        old: Bytes,
+        updates: Texts,
+    },
+    /// `show LOG`.
+    Show {
+        log: Bytes,
     },
     /// `--help`, alone or behind a command word.
     Help,

@@ -1,13 +1,14 @@
 //! From the words of a command line to what they ask for.
-ghost use Rattle.std.specs.Prelude.{◌≡◌, ◌∷◌, ℕ, [], IfOk, IfSome, IsErrOf, IsTrue, None, codes, List, map, string_bytes, option_map, option_to_list};
+ghost use Rattle.std.specs.Prelude.{◌≡◌, ◌≢◌, ◌∷◌, ℕ, [], IfOk, IfSome, IsErrOf, IsTrue, None, codes, false, List, map, string_bytes};
 ghost use Rattle.mv_words.specs.Words.{Text};
-ghost use Rattle.mv_words.specs.Commands.{Asks, IsCapacity, IsCommandWord, IsRing, Says};
+ghost use Rattle.mv_words.specs.Commands.{AreSingle, Asks, HasNone, IsCapacity, IsCommandWord, IsLog, IsRing, Says};
+ghost use Rattle.mv_words.specs.Given.{listed, values_of_options};
 ghost use Rattle.mv_words.specs.declared.command.Command.{Command as Asked};
 ghost use Rattle.mv_words.specs.declared.command.Command.TheVariants as asked;
 ghost use Rattle.mv_calls.specs.declared.fault.Or.TheVariants as or;
 
 use crate::command::{BadWords, Command};
-use crate::given::{Given, words_given};
+use crate::given::{Given, Options, words_given};
 use mv_calls::{Bytes, Or, OutOfMemory, Texts};
 use mv_scan::{Found, read_number};
 use std::alloc::Global;
@@ -42,7 +43,7 @@ fn read_texts(alloc: Global, words: &[&str]) -> Result<Command, Or<BadWords>>
 }
 
 /// The words as texts.
-fn texts_of<'a>(alloc: Global, words: &'a [String]) -> Result<Vec<&'a str>, OutOfMemory>
+pub fn texts_of<'a>(alloc: Global, words: &'a [String]) -> Result<Vec<&'a str>, OutOfMemory>
     ensures { IfOk result (λ texts. map (λ w. w.now) texts.items ≡ map string_bytes words.entry.now) }
 {
     let mut texts = Vec::with_capacity(alloc, words.len())?;
@@ -57,7 +58,13 @@ fn is_command_word(word: &str) -> bool
     ensures yes { IsTrue result → IsCommandWord word.now }
     ensures no { IsCommandWord word.now → IsTrue result }
 {
-    word == "run" || word == "rehearse" || word == "serve" || word == "check" || word == "rules"
+    word == "run"
+        || word == "rehearse"
+        || word == "serve"
+        || word == "check"
+        || word == "rules"
+        || word == "audit"
+        || word == "show"
 }
 
 /// The forms of words that ask what the program is.
@@ -83,35 +90,60 @@ fn told_by(words: &[&str]) -> Option<Command>
 
 /// What a command word asks for, with what stands behind it.
 fn command_of(alloc: Global, word: &str, given: &Given<'_>) -> Result<Command, Or<BadWords>>
-    ensures ok { IfOk result (λ command. Asks word.now (option_to_list (option_map (λ s. s.now) given.now.ring)) (map (λ a. a.now) given.now.places.items) command) }
-    ensures bad { IsErrOf result (or.Fault (record {})) → (command : Asked) → Asks word.now (option_to_list (option_map (λ s. s.now) given.now.ring)) (map (λ a. a.now) given.now.places.items) command → ⊥ }
+    requires { AreSingle (values_of_options given.now.options) }
+    ensures ok { IfOk result (λ command. Asks word.now (values_of_options given.now.options) (map (λ a. a.now) given.now.places.items) command) }
+    ensures bad { IsErrOf result (or.Fault (record {})) → (command : Asked) → Asks word.now (values_of_options given.now.options) (map (λ a. a.now) given.now.places.items) command → ⊥ }
 {
-    if word == "rehearse" {
-        return rehearsal_of(alloc, given);
+    if word == "run" {
+        run_of(alloc, given)
+    } else if word == "rehearse" {
+        rehearsal_of(alloc, given)
+    } else if word == "serve" {
+        service_of(alloc, given)
+    } else {
+        plain_command_of(alloc, word, given)
     }
-    if word == "serve" {
-        return service_of(alloc, given);
-    }
-    if given.ring.is_some() {
+}
+
+/// What a word asks for that runs no guest.
+fn plain_command_of(alloc: Global, word: &str, given: &Given<'_>) -> Result<Command, Or<BadWords>>
+    requires single { AreSingle (values_of_options given.now.options) }
+    requires not_run { word.now ≢ codes "run" }
+    requires not_rehearse { word.now ≢ codes "rehearse" }
+    requires not_serve { word.now ≢ codes "serve" }
+    ensures ok { IfOk result (λ command. Asks word.now (values_of_options given.now.options) (map (λ a. a.now) given.now.places.items) command) }
+    ensures bad { IsErrOf result (or.Fault (record {})) → (command : Asked) → Asks word.now (values_of_options given.now.options) (map (λ a. a.now) given.now.places.items) command → ⊥ }
+{
+    if has_options(&given.options) {
         return Err(Or::Fault(BadWords));
     }
-    if word == "run" {
-        return run_of(alloc, given);
+    if word == "audit" {
+        return audit_of(alloc, given);
     }
     let Some(path) = only_place(given.places.as_slice()) else {
         return Err(Or::Fault(BadWords));
     };
+    let path = Bytes::from_slice(alloc, path.as_bytes())?;
     if word == "check" {
-        Ok(Command::Check {
-            path: Bytes::from_slice(alloc, path.as_bytes())?,
-        })
+        Ok(Command::Check { path })
     } else if word == "rules" {
-        Ok(Command::Rules {
-            forward: Bytes::from_slice(alloc, path.as_bytes())?,
-        })
+        Ok(Command::Rules { forward: path })
+    } else if word == "show" {
+        Ok(Command::Show { log: path })
     } else {
         Err(Or::Fault(BadWords))
     }
+}
+
+/// Whether any option is given.
+fn has_options(options: &Options<'_>) -> bool
+    ensures yes { IsTrue result → HasNone (values_of_options options.now) → ⊥ }
+    ensures no { result ≡ false → HasNone (values_of_options options.now) }
+{
+    options.ring.is_some()
+        || options.log.is_some()
+        || options.listen.is_some()
+        || options.console.is_some()
 }
 
 /// The only word, where it is one.
@@ -137,14 +169,14 @@ fn copies_of(alloc: Global, words: &[&str]) -> Result<Texts, OutOfMemory>
     Ok(Texts::from_vec(copies))
 }
 
-/// What `run` asks for, which has no option.
+/// What `run` asks for.
 fn run_of(alloc: Global, given: &Given<'_>) -> Result<Command, Or<BadWords>>
-    requires { given.now.ring ≡ None }
-    ensures ok { IfOk result (λ command. Asks (codes "run") [] (map (λ a. a.now) given.now.places.items) command) }
-    ensures bad { IsErrOf result (or.Fault (record {})) → (command : Asked) → Asks (codes "run") [] (map (λ a. a.now) given.now.places.items) command → ⊥ }
+    requires { AreSingle (values_of_options given.now.options) }
+    ensures ok { IfOk result (λ command. Asks (codes "run") (values_of_options given.now.options) (map (λ a. a.now) given.now.places.items) command) }
+    ensures bad { IsErrOf result (or.Fault (record {})) → (command : Asked) → Asks (codes "run") (values_of_options given.now.options) (map (λ a. a.now) given.now.places.items) command → ⊥ }
 {
     let places = given.places.as_slice();
-    if places.is_empty() {
+    if given.options.ring.is_some() || given.options.log.is_some() || places.is_empty() {
         return Err(Or::Fault(BadWords));
     }
     let old = Bytes::from_slice(alloc, places[0].as_bytes())?;
@@ -154,16 +186,18 @@ fn run_of(alloc: Global, given: &Given<'_>) -> Result<Command, Or<BadWords>>
 
 /// What `rehearse` asks for.
 fn rehearsal_of(alloc: Global, given: &Given<'_>) -> Result<Command, Or<BadWords>>
-    ensures ok { IfOk result (λ command. Asks (codes "rehearse") (option_to_list (option_map (λ s. s.now) given.now.ring)) (map (λ a. a.now) given.now.places.items) command) }
-    ensures bad { IsErrOf result (or.Fault (record {})) → (command : Asked) → Asks (codes "rehearse") (option_to_list (option_map (λ s. s.now) given.now.ring)) (map (λ a. a.now) given.now.places.items) command → ⊥ }
+    requires { AreSingle (values_of_options given.now.options) }
+    ensures ok { IfOk result (λ command. Asks (codes "rehearse") (values_of_options given.now.options) (map (λ a. a.now) given.now.places.items) command) }
+    ensures bad { IsErrOf result (or.Fault (record {})) → (command : Asked) → Asks (codes "rehearse") (values_of_options given.now.options) (map (λ a. a.now) given.now.places.items) command → ⊥ }
 {
     let places = given.places.as_slice();
     if places.len() < 2 {
         return Err(Or::Fault(BadWords));
     }
-    let Some(ring) = ring_of(given.ring) else {
+    let Some(ring) = ring_of(given.options.ring) else {
         return Err(Or::Fault(BadWords));
     };
+    let log = log_of(alloc, given.options.log)?;
     let old = Bytes::from_slice(alloc, places[0].as_bytes())?;
     let schedule = Bytes::from_slice(alloc, places[1].as_bytes())?;
     let args = copies_of(alloc, &places[2..])?;
@@ -172,30 +206,64 @@ fn rehearsal_of(alloc: Global, given: &Given<'_>) -> Result<Command, Or<BadWords
         schedule,
         args,
         ring,
+        log,
     })
 }
 
 /// What `serve` asks for.
 fn service_of(alloc: Global, given: &Given<'_>) -> Result<Command, Or<BadWords>>
-    ensures ok { IfOk result (λ command. Asks (codes "serve") (option_to_list (option_map (λ s. s.now) given.now.ring)) (map (λ a. a.now) given.now.places.items) command) }
-    ensures bad { IsErrOf result (or.Fault (record {})) → (command : Asked) → Asks (codes "serve") (option_to_list (option_map (λ s. s.now) given.now.ring)) (map (λ a. a.now) given.now.places.items) command → ⊥ }
+    requires { AreSingle (values_of_options given.now.options) }
+    ensures ok { IfOk result (λ command. Asks (codes "serve") (values_of_options given.now.options) (map (λ a. a.now) given.now.places.items) command) }
+    ensures bad { IsErrOf result (or.Fault (record {})) → (command : Asked) → Asks (codes "serve") (values_of_options given.now.options) (map (λ a. a.now) given.now.places.items) command → ⊥ }
 {
     let places = given.places.as_slice();
     if places.is_empty() {
         return Err(Or::Fault(BadWords));
     }
-    let Some(ring) = ring_of(given.ring) else {
+    let Some(ring) = ring_of(given.options.ring) else {
         return Err(Or::Fault(BadWords));
     };
+    let log = log_of(alloc, given.options.log)?;
     let old = Bytes::from_slice(alloc, places[0].as_bytes())?;
     let args = copies_of(alloc, &places[1..])?;
-    Ok(Command::Serve { old, args, ring })
+    Ok(Command::Serve {
+        old,
+        args,
+        ring,
+        log,
+    })
+}
+
+/// What `audit` asks for: behind the log and the first module, files in threes.
+fn audit_of(alloc: Global, given: &Given<'_>) -> Result<Command, Or<BadWords>>
+    requires { HasNone (values_of_options given.now.options) }
+    ensures ok { IfOk result (λ command. Asks (codes "audit") (values_of_options given.now.options) (map (λ a. a.now) given.now.places.items) command) }
+    ensures bad { IsErrOf result (or.Fault (record {})) → (command : Asked) → Asks (codes "audit") (values_of_options given.now.options) (map (λ a. a.now) given.now.places.items) command → ⊥ }
+{
+    let places = given.places.as_slice();
+    if places.len() < 2 || (places.len() - 2) % 3 != 0 {
+        return Err(Or::Fault(BadWords));
+    }
+    let log = Bytes::from_slice(alloc, places[0].as_bytes())?;
+    let old = Bytes::from_slice(alloc, places[1].as_bytes())?;
+    let updates = copies_of(alloc, &places[2..])?;
+    Ok(Command::Audit { log, old, updates })
+}
+
+/// The file for the log, where one is given.
+fn log_of(alloc: Global, log: Option<&str>) -> Result<Option<Bytes>, OutOfMemory>
+    ensures { IfOk result (λ path. IsLog (listed log.entry) path) }
+{
+    match log {
+        None => Ok(None),
+        Some(path) => Ok(Some(Bytes::from_slice(alloc, path.as_bytes())?)),
+    }
 }
 
 /// The capacity of the feed, where the value of the option is one.
 fn ring_of(ring: Option<&str>) -> Option<u32>
-    ensures some { IfSome result (IsRing (option_to_list (option_map (λ s. s.now) ring.entry))) }
-    ensures none { result ≡ None → (n : ℕ) → IsRing (option_to_list (option_map (λ s. s.now) ring.entry)) n → ⊥ }
+    ensures some { IfSome result (IsRing (listed ring.entry)) }
+    ensures none { result ≡ None → (n : ℕ) → IsRing (listed ring.entry) n → ⊥ }
 {
     match ring {
         None => Some(DEFAULT_RING),

@@ -54,6 +54,44 @@ fn words_in_the_grammar(rt: HostRuntime) -> Result<(), Fail> {
             Ok(Command::Serve { ring: 4, .. })
         )
     );
+    let words = texts(
+        alloc,
+        &[
+            "rehearse",
+            "old",
+            "plan",
+            "--log=kept",
+            "--listen",
+            "a:1",
+            "--console=b:2",
+        ],
+    )?;
+    match read_words(alloc, words.as_slice())? {
+        Command::Rehearse {
+            log: Some(path),
+            ..
+        } => assert_eq!(rt; path.slice(), b"kept".as_slice()),
+        _ => assert!(rt; false),
+    }
+    let addresses = places(alloc, words.as_slice())?;
+    assert_eq!(rt; addresses.listen.slice(), b"a:1".as_slice());
+    assert_eq!(rt; addresses.console.slice(), b"b:2".as_slice());
+    let words = texts(alloc, &["audit", "log", "old", "new", "none", "rev"])?;
+    match read_words(alloc, words.as_slice())? {
+        Command::Audit { updates, .. } => assert_eq!(rt; updates.slice().len(), 3),
+        _ => assert!(rt; false),
+    }
+    assert_eq!(rt;
+        places(alloc, words.as_slice())?.console.slice(),
+        b"127.0.0.1:7071".as_slice()
+    );
+    let words = texts(alloc, &["show", "log"])?;
+    assert!(rt;
+        matches!(
+            read_words(alloc, words.as_slice()),
+            Ok(Command::Show { .. })
+        )
+    );
     let words = texts(alloc, &["check", "--help"])?;
     assert!(rt; matches!(read_words(alloc, words.as_slice()), Ok(Command::Help)));
     Ok(())
@@ -61,7 +99,7 @@ fn words_in_the_grammar(rt: HostRuntime) -> Result<(), Fail> {
 
 #[test]
 fn words_outside_the_grammar(rt: HostRuntime) -> Result<(), Fail> {
-    let rows: [&[&str]; 13] = [
+    let rows: [&[&str]; 17] = [
         &[],
         &["jump"],
         &["run"],
@@ -75,6 +113,10 @@ fn words_outside_the_grammar(rt: HostRuntime) -> Result<(), Fail> {
         &["rehearse", "old", "plan", "--ring", "3"],
         &["rehearse", "old", "plan", "--ring", "000004"],
         &["rehearse", "old", "plan", "--help"],
+        &["run", "old", "--log", "kept"],
+        &["serve", "old", "--listen=a:1", "--listen=a:1"],
+        &["audit", "log", "old", "new", "none"],
+        &["show", "log", "--console=b:2"],
     ];
     for words in rows {
         assert!(rt; are_refused(rt.alloc(), words)?);
