@@ -19,33 +19,35 @@ top = (built words_app).top
 abbrev pub opt : Text → Rule
 opt name = filled (option_rule name)
 
--- a name is the one that there is
-pub name_is : (n : Text) → is_name option_names n ≡ true → codes "ring" ≡ n
-name_is n e = at (bytes_eq (codes "ring") n) refl e
+-- what holds of each option
+pub by_name : (P : Text → Type 0) → P (codes "ring") → P (codes "log") → P (codes "listen") → P (codes "console") → (n : Text) → is_name option_names n ≡ true → P n
+by_name P ring log listen console n e = at (bytes_eq (codes "ring") n) (bytes_eq (codes "log") n) (bytes_eq (codes "listen") n) (bytes_eq (codes "console") n) refl refl refl refl e
   where
-    at : (a : Bool) → bytes_eq (codes "ring") n ≡ a → (a || false) ≡ true → codes "ring" ≡ n
-    at true p e = (bytes_eq-Decides (codes "ring") n).0 p
-    at false p e = absurd cc
+    at : (a b c d : Bool) → bytes_eq (codes "ring") n ≡ a → bytes_eq (codes "log") n ≡ b → bytes_eq (codes "listen") n ≡ c → bytes_eq (codes "console") n ≡ d → (a || (b || (c || (d || false)))) ≡ true → P n
+    at true b c d p q r s e = subst P ((bytes_eq-Decides (codes "ring") n).0 p) ring
+    at false true c d p q r s e = subst P ((bytes_eq-Decides (codes "log") n).0 q) log
+    at false false true d p q r s e = subst P ((bytes_eq-Decides (codes "listen") n).0 r) listen
+    at false false false true p q r s e = subst P ((bytes_eq-Decides (codes "console") n).0 s) console
+    at false false false false p q r s e = absurd cc
 
 no_name : (n : Text) → is_name option_names n ≡ false → arg_by_long top.rules n ≡ None
-no_name n e = at (bytes_eq (codes "ring") n) refl e
+no_name n e = at (bytes_eq (codes "ring") n) (bytes_eq (codes "log") n) (bytes_eq (codes "listen") n) (bytes_eq (codes "console") n) refl refl refl refl e
   where
-    at : (a : Bool) → bytes_eq (codes "ring") n ≡ a → (a || false) ≡ false → arg_by_long top.rules n ≡ None
-    at true p e = absurd cc
-    at false p e = rw p refl
-
--- what holds of each option
-pub by_name : (P : Text → Type 0) → P (codes "ring") → (n : Text) → is_name option_names n ≡ true → P n
-by_name P p n e = subst P (name_is n e) p
+    at : (a b c d : Bool) → bytes_eq (codes "ring") n ≡ a → bytes_eq (codes "log") n ≡ b → bytes_eq (codes "listen") n ≡ c → bytes_eq (codes "console") n ≡ d → (a || (b || (c || (d || false)))) ≡ false → arg_by_long top.rules n ≡ None
+    at true b c d p q r s e = absurd cc
+    at false true c d p q r s e = absurd cc
+    at false false true d p q r s e = absurd cc
+    at false false false true p q r s e = absurd cc
+    at false false false false p q r s e = rw (p, q, r, s) refl
 
 abbrev pub places_id : Text
 places_id = codes "places"
 
 pub not_places : (n : Text) → is_name option_names n ≡ true → bytes_eq n places_id ≡ false
-not_places = by_name (λ n. bytes_eq n places_id ≡ false) refl
+not_places = by_name (λ n. bytes_eq n places_id ≡ false) refl refl refl refl
 
 pub places_not : (n : Text) → is_name option_names n ≡ true → bytes_eq places_id n ≡ false
-places_not = by_name (λ n. bytes_eq places_id n ≡ false) refl
+places_not = by_name (λ n. bytes_eq places_id n ≡ false) refl refl refl refl
 
 abbrev pub rest : Rule
 rest = with_index 1 (filled (rest_rule places_id))
@@ -66,9 +68,9 @@ stays (x ∷ xs) k = refl
 
 pub knows : Knows top option_names opt
 knows = record {
-  long_yes = by_name (λ n. arg_by_long top.rules n ≡ Some (opt n)) refl;
+  long_yes = by_name (λ n. arg_by_long top.rules n ≡ Some (opt n)) refl refl refl refl;
   long_no = no_name;
-  opt_found = by_name (λ n. arg_by_id top.rules (opt n).id ≡ Some (opt n)) refl;
+  opt_found = by_name (λ n. arg_by_id top.rules (opt n).id ≡ Some (opt n)) refl refl refl refl;
   opt_single = λ n. record { range = refl };
   place_found = by_place (λ a. arg_by_id top.rules a.id ≡ Some a) refl;
   place_single = by_place IsSingle (record { range = refl });

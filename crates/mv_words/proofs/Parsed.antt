@@ -9,7 +9,7 @@ use Rattle.clap.specs.declared.parser.matches.ArgMatches.{ArgMatches}
 use Rattle.clap.proofs.WalkLemmas.{first_value-rows, raw_values-rows}
 use Rattle.mv_words.specs.Words.{Text, Part, free, wants, ended, parts, places, values_of, is_plain, option_of, option_step, with_part, place, is_name, is_full}
 use Rattle.mv_words.specs.Hyphens.{has_short, is_short, list_or_none}
-use Rattle.mv_words.specs.Commands.{option_names, Gives}
+use Rattle.mv_words.specs.Commands.{option_names, AreSingle, Gives, Values, values_in}
 use Rattle.mv_words.specs.App.{words_app}
 use Rattle.mv_words.proofs.Lemmas.{by_name, places_id}
 use Rattle.mv_words.proofs.Rows.{look}
@@ -61,8 +61,8 @@ short_none (w ∷ ws) e = at (bytes_eq w (45 ∷ 45 ∷ [])) (is_short w) refl r
     at false true p q e ih = here_none w ws p q
     at false false p q e ih = later_none w ws p (ih e)
 
-pub short_gives : (ws rings placed : List Text) → true ≡ has_short ws → Gives ws rings placed → ⊥
-short_gives ws rings placed e gives = let f : none_at ≡ Some gives.said = sym (short_none ws (sym e)).0 ∙ gives.read in absurd cc
+pub short_gives : (ws : List Text) (values : Values) (placed : List Text) → true ≡ has_short ws → Gives ws values placed → ⊥
+short_gives ws values placed e gives = let f : none_at ≡ Some gives.said = sym (short_none ws (sym e)).0 ∙ gives.read in absurd cc
 
 -- ---- a parse that is taken
 
@@ -93,29 +93,58 @@ list_is : (vs : List Text) → list_or_none (some_if vs) ≡ vs
 list_is [] = refl
 list_is (v ∷ vs) = refl
 
-pub gives_by : (c : App) (words : List Text) (m : ArgMatches) (ring : Option Text) (placed : List Text) → c ≡ words_app → 0 < length words → has_short (drop 1 words) ≡ false
+-- the values of options that are each given once at most
+abbrev pub values_by : (ring log listen console : Option Text) → Values
+values_by ring log listen console =
+    record { rings = option_to_list ring; logs = option_to_list log; listens = option_to_list listen; consoles = option_to_list console }
+
+at_most_one : (o : Option Text) → length (option_to_list o) ≤ 1
+at_most_one None = omega arith
+at_most_one (Some v) = omega arith
+
+pub single_by : (ring log listen console : Option Text) → AreSingle (values_by ring log listen console)
+single_by ring log listen console = record { ring = at_most_one ring; log = at_most_one log; listen = at_most_one listen; console = at_most_one console }
+
+abbrev these : (rings logs listens consoles : List Text) → Values
+these rings logs listens consoles = record { rings = rings; logs = logs; listens = listens; consoles = consoles }
+
+values_are_by : (rings logs listens consoles : List Text) (ring log listen console : Option Text) → rings ≡ option_to_list ring → logs ≡ option_to_list log → listens ≡ option_to_list listen → consoles ≡ option_to_list console
+    → these rings logs listens consoles ≡ values_by ring log listen console
+values_are_by rings logs listens consoles ring log listen console a b c d = rw (a, b, c, d) refl
+
+pub gives_by : (c : App) (words : List Text) (m : ArgMatches) (ring log listen console : Option Text) (placed : List Text) → c ≡ words_app → 0 < length words → has_short (drop 1 words) ≡ false
     → (is_simple_and_free c ≡ true → fault_of c words ≡ []) → (is_simple c ≡ true → rows_of (found_of m) ≡ matches_of c words)
-    → ring ≡ first_value (found_of m) (codes "ring") → placed ≡ list_or_none (option_map raw_values (matched_of (found_of m) (codes "places")))
-    → Gives (drop 1 words) (option_to_list ring) placed
-gives_by c [] m ring placed e some short kinds matches ring_is placed_is = absurd (omega arith)
-gives_by c (word ∷ ws) m ring placed e some short kinds matches ring_is placed_is =
+    → ring ≡ first_value (found_of m) (codes "ring") → log ≡ first_value (found_of m) (codes "log") → listen ≡ first_value (found_of m) (codes "listen") → console ≡ first_value (found_of m) (codes "console")
+    → placed ≡ list_or_none (option_map raw_values (matched_of (found_of m) (codes "places")))
+    → Gives (drop 1 words) (values_by ring log listen console) placed
+gives_by c [] m ring log listen console placed e some short kinds matches ring_is log_is listen_is console_is placed_is = absurd (omega arith)
+gives_by c (word ∷ ws) m ring log listen console placed e some short kinds matches ring_is log_is listen_is console_is placed_is =
     let fault : fault_of words_app (word ∷ ws) ≡ [] = subst (λ (a : App). fault_of a (word ∷ ws) ≡ []) e (kinds (ap is_simple_and_free e)) in
     let rows : rows_of (found_of m) ≡ matches_of words_app (word ∷ ws) = matches (ap is_simple e) ∙ ap (λ (a : App). matches_of a (word ∷ ws)) e in
     let t : Taken word ws = taken word ws short fault in
     let holds : Holds (rows_of (found_of m)) (λ n. values_of n t.said) (places t.said) = subst (λ (q : List Row). Holds q (λ n. values_of n t.said) (places t.said)) (sym rows) t.holds in
+    let found : (n : Text) (o : Option Text) → is_name option_names n ≡ true → o ≡ first_value (found_of m) n → values_of n t.said ≡ option_to_list o
+    = λ n o k is. one_value (values_of n t.said) o (t.single n k) (is ∙ value_is m n _ (holds.named n k)) in
     record {
       said = t.said;
       read = t.read;
-      rings_are = one_value (values_of (codes "ring") t.said) ring (t.single (codes "ring") refl) (ring_is ∙ value_is m (codes "ring") _ (holds.named (codes "ring") refl));
+      values_are = values_are_by _ _ _ _ ring log listen console (found (codes "ring") ring refl ring_is) (found (codes "log") log refl log_is) (found (codes "listen") listen refl listen_is) (found (codes "console") console refl console_is);
       placed_is = sym (placed_is ∙ ap list_or_none (raw_values-rows (found_of m) (codes "places") ∙ holds.others) ∙ list_is (places t.said));
     }
 
+few : (vs ws : List Text) → vs ≡ ws → length ws ≤ 1 → length vs ≤ 1
+few vs ws e le = rw e le
+
 -- words that give something have no fault
-pub no_fault : (c : App) (words rings placed : List Text) → c ≡ words_app → 0 < length words → has_short (drop 1 words) ≡ false → length rings ≤ 1 → Gives (drop 1 words) rings placed → fault_of c words ≡ []
-no_fault c [] rings placed e some short one gives = absurd (omega arith)
-no_fault c (word ∷ ws) rings placed e some short one gives =
-    let single : length (values_of (codes "ring") gives.said) ≤ 1 = subst (λ (vs : List Text). length vs ≤ 1) (sym gives.rings_are) one in
-    ap (λ (a : App). fault_of a (word ∷ ws)) e ∙ is_taken word ws gives.said short gives.read (by_name (λ n. length (values_of n gives.said) ≤ 1) single)
+pub no_fault : (c : App) (words : List Text) (values : Values) (placed : List Text) → c ≡ words_app → 0 < length words → has_short (drop 1 words) ≡ false → AreSingle values → Gives (drop 1 words) values placed → fault_of c words ≡ []
+no_fault c [] values placed e some short one gives = absurd (omega arith)
+no_fault c (word ∷ ws) values placed e some short one gives =
+    let are = gives.values_are in
+    ap (λ (a : App). fault_of a (word ∷ ws)) e ∙ is_taken word ws gives.said short gives.read (by_name (λ n. length (values_of n gives.said) ≤ 1)
+    (few _ values.rings (ap (λ (v : Values). v.rings) are) one.ring)
+    (few _ values.logs (ap (λ (v : Values). v.logs) are) one.log)
+    (few _ values.listens (ap (λ (v : Values). v.listens) are) one.listen)
+    (few _ values.consoles (ap (λ (v : Values). v.consoles) are) one.console))
 
 whole : (xs : List (Bor Text)) (n : ℕ) → length xs ≤ n → take n xs ≡ xs
 whole xs n le = take_all n xs le

@@ -52,7 +52,7 @@ abbrev rows_of_walk : List Text → List Row
 rows_of_walk ws = (settled top.rules (end_of ws)).rows
 
 all_plain : AllByRecursion HasNoDefault top.rules
-all_plain = (refl, (refl, tt))
+all_plain = (refl, (refl, (refl, (refl, (refl, tt)))))
 
 split_none : (w s d c : Kinds) → d ≡ [] → none (or_else w (or_else [] (or_else s (or_else d c)))) ≡ (none (or_else w s) && none c)
 split_none [] [] d c e = rw e refl

@@ -53,8 +53,8 @@ fn named_or_default(
     listen: Option<&str>,
     console: Option<&str>,
 ) -> Result<Addresses, OutOfMemory>
-    ensures listen { IfOk result (λ a. a.listen ≡ first_or default_listen (listed listen)) }
-    ensures console { IfOk result (λ a. a.console ≡ first_or default_console (listed console)) }
+    ensures listen { IfOk result (λ a. a.listen ≡ first_or default_listen (listed listen.entry)) }
+    ensures console { IfOk result (λ a. a.console ≡ first_or default_console (listed console.entry)) }
 {
     Ok(Addresses {
         listen: Bytes::from_slice(alloc, listen.unwrap_or(DEFAULT_LISTEN).as_bytes())?,
