@@ -7,3 +7,4 @@ pub mod Taken
 pub mod Parsed
 pub mod Asking
 pub mod OneReading
+pub mod Defaults
