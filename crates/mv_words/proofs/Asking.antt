@@ -190,10 +190,14 @@ audit_asked values placed Help asks = absurd asks
 audit_asked values placed Version asks = absurd asks
 
 -- the log, the first module, and the files of the updates
-pub audit_files : {A : Type 0} (f : A → Text) (xs : List A) (a b : A) → 2 ≤ length xs → map f xs ≡ f (get_or xs 0 a) ∷ f (get_or xs 1 b) ∷ map f (take (length xs - 2) (drop 2 xs))
+audit_files : {A : Type 0} (f : A → Text) (xs : List A) (a b : A) → 2 ≤ length xs → map f xs ≡ f (get_or xs 0 a) ∷ f (get_or xs 1 b) ∷ map f (take (length xs - 2) (drop 2 xs))
 audit_files f [] a b e = absurd (omega arith)
 audit_files f (x ∷ []) a b e = absurd (omega arith)
 audit_files f (x ∷ y ∷ zs) a b e = ap (λ (ws : List _). f x ∷ f y ∷ map f ws) (sym (take_all (length (x ∷ y ∷ zs) - 2) zs (omega arith)))
+
+pub audit_are : {A : Type 0} (f : A → Text) (xs items : List A) (a b : A) (log old : Text) (updates : List Text) → xs ≡ items → 2 ≤ length xs → log ≡ f (get_or xs 0 a) → old ≡ f (get_or xs 1 b)
+    → updates ≡ map f (take (length xs - 2) (drop 2 xs)) → map f items ≡ log ∷ old ∷ updates
+audit_are f xs items a b log old updates same some first second others = ap (map f) (sym same) ∙ audit_files f xs a b some ∙ rw (first, second, others) refl
 
 pub rest_length : {A : Type 0} (f : A → Text) (xs : List A) → length (map f (take (length xs - 2) (drop 2 xs))) ≡ length xs - 2
 rest_length f xs = simp (length-map, length-take, length-drop) (omega arith)

@@ -1,7 +1,7 @@
 use Rattle.std.proofs.Common.{◌≡◌, ℕ, ◌-◌, ◌%◌, length, map, ap, sym, ◌∙◌, refl, subst, arith, rules}
 use Rattle.std.proofs.lemmas.List.{length-map}
 use Rattle.mv_words.specs.Commands.{AreInThrees}
-use Rattle.mv_words.proofs.Asking.{audit_asked, audit_files, rest_length, threes}
+use Rattle.mv_words.proofs.Asking.{audit_asked, audit_are, rest_length, threes}
 use Rattle.mv_words.proofs.reading.audit_of.Goals.{then-places-lt2-via-then-places-lt2, then-places-lt2-via-else-places-lt2+then-places-ne0}
 use Rattle.mv_words.proofs.reading.audit_of.Goals as goal
 
@@ -15,15 +15,9 @@ returns-then-places-lt2-clause-bad c = λ e command asks.
     ]
 
 pub returns-clause-ok : goal.returns-clause-ok
-returns-clause-ok c =
-    let files = ap (map (λ a. a.now)) (sym c.as_slice-places.ensures.value) ∙ audit_files (λ a. a.now) c.as_slice-places.result.now c.as_bytes.result c.as_bytes-2.result c.if-places-lt2.false in
-    let first = c.as_bytes.ensures.value in
-    let second = c.as_bytes-2.ensures.value in
-    let log = c.in_ok-log.ensures in
-    let old = c.in_ok-old.ensures in
-    let updates = c.in_ok-updates.ensures in (
+returns-clause-ok c = (
   refl,
   c.requires,
-  cc,
+  audit_are (λ a. a.now) c.as_slice-places.result.now _ _ _ _ _ _ c.as_slice-places.ensures.value c.if-places-lt2.false (c.in_ok-log.ensures ∙ c.as_bytes.ensures.value) (c.in_ok-old.ensures ∙ c.as_bytes-2.ensures.value) c.in_ok-updates.ensures,
   subst AreInThrees (sym c.in_ok-updates.ensures) (threes _ (ap (λ (k : ℕ). k % 3) (rest_length (λ a. a.now) c.as_slice-places.result.now) ∙ c.if-places-ne0.false)),
 )
