@@ -1,5 +1,5 @@
 -- Words that are a command's, and words that are none's.
-use Rattle.std.proofs.Common.{◌≡◌, ◌≤◌, ◌<◌, [], ◌∷◌, ℕ, List, Bool, true, false, length, codes, refl, ap, sym, ◌∙◌, subst, Option, Some, None, arith, drop, map, get_or, inl, inr, take, ◌-◌, ◌%◌, suc}
+use Rattle.std.proofs.Common.{◌≡◌, ◌≤◌, ◌<◌, [], ◌∷◌, ℕ, List, true, false, length, codes, refl, ap, sym, ◌∙◌, subst, Option, Some, arith, drop, map, get_or, inl, inr, take, ◌-◌, ◌%◌, suc}
 use Rattle.std.specs.Prelude.{◌==◌, IfOk, IsErrOf, Result, Ok, Err}
 use Rattle.std.specs.Str.{bytes_eq}
 use Rattle.std.proofs.lemmas.List.{take_all, length-map, length-take, length-drop}

@@ -1,5 +1,5 @@
 -- What `clap` knows of the options and places.
-use Rattle.std.proofs.Common.{◌≡◌, [], ◌∷◌, ℕ, List, Bool, true, false, eqb, codes, refl, subst, sym, Option, Some, None, ◌||◌}
+use Rattle.std.proofs.Common.{◌≡◌, [], ◌∷◌, ℕ, List, Bool, true, false, eqb, codes, refl, subst, Option, Some, None, ◌||◌}
 use Rattle.std.proofs.lemmas.Slice.Eq.{bytes_eq-Decides}
 use Rattle.std.specs.Str.{bytes_eq}
 use Rattle.clap.specs.Kinds.{Kinds, or_else}

@@ -4,7 +4,7 @@ use Rattle.std.specs.Prelude.{if◌then◌else◌, unwrap_or}
 use Rattle.std.specs.Str.{bytes_eq}
 use Rattle.mv_scan.specs.Numbers.{decimal}
 use Rattle.mv_words.specs.Words.{Text, Part, parts, free, places}
-use Rattle.mv_words.specs.Commands.{option_names, Gives, HasRun, IsLog, IsRing, Asks, IsAsked, IsCommandWord, Says, Values, values_in}
+use Rattle.mv_words.specs.Commands.{option_names, Gives, IsLog, IsRing, Asks, IsAsked, IsCommandWord, Says, Values, values_in}
 use Rattle.mv_words.specs.declared.command.Command.{Command}
 use Rattle.mv_words.specs.declared.command.Command.TheVariants.{Run, Rehearse, Serve, Check, Rules, Audit, Show, Help, Version}
 

@@ -9,9 +9,9 @@ use Rattle.clap.specs.declared.parser.matches.ArgMatches.{ArgMatches}
 use Rattle.clap.proofs.WalkLemmas.{first_value-rows, raw_values-rows}
 use Rattle.mv_words.specs.Words.{Text, Part, free, wants, ended, parts, places, values_of, is_plain, option_of, option_step, with_part, place, is_name, is_full}
 use Rattle.mv_words.specs.Hyphens.{has_short, is_short, list_or_none}
-use Rattle.mv_words.specs.Commands.{option_names, AreSingle, Gives, Values, values_in}
+use Rattle.mv_words.specs.Commands.{option_names, AreSingle, Gives, Values}
 use Rattle.mv_words.specs.App.{words_app}
-use Rattle.mv_words.proofs.Lemmas.{by_name, places_id}
+use Rattle.mv_words.proofs.Lemmas.{by_name}
 use Rattle.mv_words.proofs.Rows.{look}
 use Rattle.mv_words.proofs.Holding.{Holds, some_if}
 use Rattle.mv_words.proofs.Taken.{Taken, taken, is_taken}

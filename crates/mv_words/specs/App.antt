@@ -1,5 +1,5 @@
 -- For private clauses: what `clap` is told.
-use Rattle.std.specs.Prelude.{true, Option, Some, codes}
+use Rattle.std.specs.Prelude.{true, Some, codes}
 use Rattle.mv_words.specs.Words.{Text}
 use Rattle.clap.specs.Words.{App, Rule, new_app, new_rule, with_rule}
 use Rattle.clap.specs.Simple.{on_top}

@@ -31,6 +31,25 @@ fn rehearsal(alloc: Global, words: &[&str]) -> Result<(u32, usize), Fail> {
     }
 }
 
+/// Whether the words are those of a rehearsal with a log at this path.
+fn has_log(alloc: Global, words: &[String], path: &[u8]) -> Result<bool, Fail> {
+    match read_words(alloc, words)? {
+        Command::Rehearse { log, .. } => match log {
+            Some(named) => Ok(named.slice() == path),
+            None => Ok(false),
+        },
+        _ => Ok(false),
+    }
+}
+
+/// How many files of updates the words of an audit give; 0 where they are another command's.
+fn updates(alloc: Global, words: &[String]) -> Result<usize, Fail> {
+    match read_words(alloc, words)? {
+        Command::Audit { updates, .. } => Ok(updates.slice().len()),
+        _ => Ok(0),
+    }
+}
+
 #[test]
 fn words_in_the_grammar(rt: HostRuntime) -> Result<(), Fail> {
     let alloc = rt.alloc();
@@ -66,21 +85,12 @@ fn words_in_the_grammar(rt: HostRuntime) -> Result<(), Fail> {
             "--console=b:2",
         ],
     )?;
-    match read_words(alloc, words.as_slice())? {
-        Command::Rehearse {
-            log: Some(path),
-            ..
-        } => assert_eq!(rt; path.slice(), b"kept".as_slice()),
-        _ => assert!(rt; false),
-    }
+    assert!(rt; has_log(alloc, words.as_slice(), b"kept".as_slice())?);
     let addresses = places(alloc, words.as_slice())?;
     assert_eq!(rt; addresses.listen.slice(), b"a:1".as_slice());
     assert_eq!(rt; addresses.console.slice(), b"b:2".as_slice());
     let words = texts(alloc, &["audit", "log", "old", "new", "none", "rev"])?;
-    match read_words(alloc, words.as_slice())? {
-        Command::Audit { updates, .. } => assert_eq!(rt; updates.slice().len(), 3),
-        _ => assert!(rt; false),
-    }
+    assert_eq!(rt; updates(alloc, words.as_slice())?, 3);
     assert_eq!(rt;
         places(alloc, words.as_slice())?.console.slice(),
         b"127.0.0.1:7071".as_slice()

@@ -1,4 +1,4 @@
-use Rattle.std.proofs.Common.{◌≡◌, refl}
+use Rattle.std.proofs.Common.{refl}
 use Rattle.mv_words.proofs.Asking.{if_ok, nothing_given_of, nothing_asked, first_of_some, other_err, says_by}
 use Rattle.mv_words.proofs.reading.read_texts.Goals as goal
 

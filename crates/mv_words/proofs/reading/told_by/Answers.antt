@@ -1,4 +1,4 @@
-use Rattle.std.proofs.Common.{◌≡◌, refl, inl, inr}
+use Rattle.std.proofs.Common.{refl, inl, inr}
 use Rattle.mv_words.proofs.Asking.{one_text, two_texts}
 use Rattle.mv_words.proofs.reading.told_by.Goals as goal
 
