@@ -1,0 +1,1 @@
+//! One entry of each kind with its line.
