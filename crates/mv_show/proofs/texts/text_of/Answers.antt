@@ -9,9 +9,9 @@ is_false false h = refl
 
 pub returns-in-Ok : goal.returns-in-Ok
 returns-in-Ok c = (
-      c.in-Ok.ensures.cases.0 ∙ c.slice.ensures,
-      ap is_utf8 (sym c.slice.ensures) ∙ is_utf8-from_IsUtf8 c.slice.result.now c.in-Ok.ensures.cases.1,
-    )
+  c.in-Ok.ensures.cases.0 ∙ c.slice.ensures,
+  ap is_utf8 (sym c.slice.ensures) ∙ is_utf8-from_IsUtf8 c.slice.result.now c.in-Ok.ensures.cases.1,
+)
 
 pub returns-in-Err : goal.returns-in-Err
 returns-in-Err c =
