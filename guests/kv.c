@@ -31,6 +31,7 @@ enum { CLIENTS = 8, KEYS = 32, KEY = 16, VALUE = VERSION == 1 ? 24 : 40, LINE = 
 struct client {
     uint32_t fd;       /* 0: this place is free */
     uint32_t come;     /* how many bytes of `line` have come */
+    uint32_t too_long; /* whether the beginning of this line was passed over */
     uint32_t sent, of; /* how many bytes of `reply` have gone out, and how many there are */
     char line[LINE];
     char reply[REPLY];
@@ -191,7 +192,7 @@ static void answer(struct client *c) {
 
 static void drop(struct client *c) {
     fd_close(c->fd);
-    c->fd = c->come = c->sent = c->of = 0;
+    c->fd = c->come = c->too_long = c->sent = c->of = 0;
 }
 
 /* Sends what is left of the reply. Each reply is one write, so that a rule can name it. */
@@ -226,13 +227,18 @@ static int answer_line(struct client *c) {
     uint32_t end = 0;
     while (end < c->come && c->line[end] != '\n') end++;
     if (end == LINE) {
-        say(c, "-long\n");
+        c->too_long = 1; /* its end is still to come */
         c->come = 0;
-        return 1;
+        return 0;
     }
     if (end == c->come) return 0;
     c->line[end] = 0;
-    answer(c);
+    if (c->too_long) {
+        say(c, "-long\n");
+    } else {
+        answer(c);
+    }
+    c->too_long = 0;
     c->come -= end + 1;
     for (uint32_t i = 0; i < c->come; i++) c->line[i] = c->line[end + 1 + i];
     return 1;

@@ -224,7 +224,7 @@ class Scene:
         rules = ("kv-fwd.rules", "kv-rev.rules")
         self.last = "never"
 
-        first.set("first", "the wrong version loses it")
+        first.set("first", "lost by the wrong one")
         self.all(lambda client: client.some(5))
         first.ask(["jump", "hits first", "set x", "get nobody"], ["-what", "-what", "-what", "-none"])
         first.ask(["set long " + "v" * 24, "k" * 64], ["-long", "-long"])
