@@ -271,7 +271,8 @@ static void accept_one(void) {
 static subscription wanted[CLIENTS + 1];
 static event happened[CLIENTS + 1];
 
-/* Waits until something can be done for somebody, or a while has passed, and does it. */
+/* Waits until something can be done for somebody, or a while has passed, and does it. A reply that wasn't taken whole is
+   offered again at each turn: poll_oneoff says of every connection that it can be written to. */
 static void turn(void) {
     uint32_t n = 1, came = 0;
     wanted[0].tag = POLL_READ;
@@ -279,8 +280,9 @@ static void turn(void) {
     wanted[0].userdata = CLIENTS;
     for (uint32_t i = 0; i < CLIENTS; i++) {
         struct client *c = &store.clients[i];
-        if (c->fd) {
-            wanted[n].tag = c->of ? POLL_WRITE : POLL_READ;
+        if (c->fd && c->of) go_on(c);
+        if (c->fd && !c->of) {
+            wanted[n].tag = POLL_READ;
             wanted[n].fd = c->fd;
             wanted[n].userdata = i;
             n++;

@@ -77,7 +77,8 @@ typedef struct {
 _Static_assert(sizeof(subscription) == 48 && offsetof(subscription, fd) == 16, "a subscription has 48 bytes");
 _Static_assert(sizeof(event) == 32 && offsetof(event, nbytes) == 16, "an event has 32 bytes");
 
-/* Waits for about a tenth of a second at most. *count is how many events there are: 0 where nothing came about. */
+/* Waits for about a tenth of a second at most. *count is how many events there are: 0 where nothing came about. A write to
+   a connection has always come about, also where fd_write then answers TRY_AGAIN; a read of standard input never has. */
 WASI("poll_oneoff") int32_t poll_oneoff(const void *subscriptions, void *events, uint32_t n, uint32_t *count);
 
 /* The next four never wait. fd_read reads 0 bytes at the connection's end; fd_write may take fewer bytes than given. */

@@ -212,6 +212,8 @@ class Scene:
         """An update that is discarded for this cause."""
         self.update(number, *words)
         if ask:
+            # The new version has the state of the next update point, so what is asked before that point it doesn't hear.
+            self.status("OldLeads", self.last)
             ask()
         self.status("OldAlone", last)
         self.last = last
