@@ -20,4 +20,5 @@ store() {
 store -DVERSION=1 -o "$data/kv-1.wasm"
 store -DVERSION=2 -o "$data/kv-2.wasm"
 store -DVERSION=2 -DFIRST=1 -o "$data/kv-wrong.wasm"
+store -DVERSION=2 -DTRAP=1 -o "$data/kv-trap.wasm"
 chmod 644 "$data"/*.wasm

@@ -22,6 +22,15 @@
 #define VERSION 1
 #endif
 
+/* build.sh makes two wrong versions too: one forgets the first key in its transformer, one traps at a command that it
+   doesn't know. */
+#ifndef FIRST
+#define FIRST 0
+#endif
+#ifndef TRAP
+#define TRAP 0
+#endif
+
 enum { CLIENTS = 8, KEYS = 32, KEY = 16, VALUE = VERSION == 1 ? 24 : 40, LINE = 64, REPLY = 48 };
 
 /* -------------------------------------------------------------------------------------------------------------- */
@@ -182,6 +191,7 @@ static void answer(struct client *c) {
         if (e) say_number(c, "#", e->hits);
 #endif
     } else {
+        if (TRAP) __builtin_trap();
         say(c, "-what\n");
     }
 }
@@ -328,10 +338,6 @@ struct old_store {
 };
 
 enum { NOT_VERSION_1 = 1, OUT_OF_BOUNDS = 2 };
-
-#ifndef FIRST
-#define FIRST 0 /* build.sh makes a wrong version too, by 1: it forgets the first key */
-#endif
 
 static int old_read(uint32_t src, void *dst, uint32_t len) { return live_old_read(src, (uint32_t)dst, len); }
 
