@@ -135,7 +135,13 @@ A\x01:\0\x88\xd8\x80\x80\0A\0B\x087\x03\x80\xd8\x80\x80\0 \0A\06\x02\x08B\0!\x01
 \0=\0:\0#\0set \0get \0hits \0del \0-what\x0a\0-full\x0a\0-long\x0a\0-none\x0a\0+gone\x0a\0+stored\x0a\0";
 
 /// Where the second version forgets the first key in its transformer: places of `KV_2`, and the bytes there.
-const WRONG: [(usize, u8); 5] = [(1967, 204), (1980, 176), (1981, 201), (1998, 216), (1999, 9)];
+const WRONG: [(usize, u8); 5] = [
+    (1967, 204),
+    (1980, 176),
+    (1981, 201),
+    (1998, 216),
+    (1999, 9),
+];
 
 /// Says that what version 1 answers as `+ok`, version 2 answers as `+stored`.
 const FORWARD: &[u8] =
