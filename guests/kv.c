@@ -13,7 +13,7 @@
 
      the state         a value may have 39 characters in place of 23, and each key counts how often it was got
      the answers       a set answers +stored in place of +ok
-     a new command     hits KEY answers #N, or -none
+     a new command     hits KEY answers #N, or #none
 
    What version 2 has besides is at the end: its transformer, which makes its state of version 1's. */
 #include "live.h"
@@ -174,6 +174,18 @@ static void count(struct client *c) {
     say_number(c, ":", n);
 }
 
+#if VERSION == 2
+/* All that it answers begins with #, and nothing else does: so one rule can say that version 1 doesn't know it. */
+static void hits(struct client *c, const char *key) {
+    struct entry *e = *key ? find(key) : 0;
+    if (e) {
+        say_number(c, "#", e->hits);
+    } else {
+        say(c, "#none\n");
+    }
+}
+#endif
+
 /* Answers the command in the client's line, which ends with a zero. */
 static void answer(struct client *c) {
     const char *rest;
@@ -187,8 +199,7 @@ static void answer(struct client *c) {
         count(c);
 #if VERSION == 2
     } else if ((rest = behind(c->line, "hits "))) {
-        struct entry *e = named(c, rest);
-        if (e) say_number(c, "#", e->hits);
+        hits(c, rest);
 #endif
     } else {
         if (TRAP) __builtin_trap();

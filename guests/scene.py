@@ -240,7 +240,7 @@ class Scene:
         self.step("version 2 follows")
 
         self.change("promote", "NewLeads", {STORED})
-        first.ask(["get first", "hits first"], ["=" + first.kept["first"], "#1"])
+        first.ask(["get first", "hits first", "hits x"], ["=" + first.kept["first"], "#1", "#none"])
         self.all(lambda client: client.some(5))
         self.status("NewLeads")
         self.step("version 2 leads, version 1 follows")
