@@ -131,8 +131,9 @@ class Scene:
         if "--listen" in said and "--console" in said:
             self.listen, self.console = free_addresses()
             options += ["--listen", self.listen, "--console", self.console]
-        if "--log" in said and "audit" in said:
-            self.log = os.path.join(tempfile.mkdtemp(), "log")
+        if "--log" in said and "audit LOG" in said and "show LOG" in said:
+            self.folder = tempfile.TemporaryDirectory()
+            self.log = os.path.join(self.folder.name, "log")
             options += ["--log", self.log]
         self.orders = []  # the updates that were accepted, for the audit
         for address in (self.listen, self.console):
@@ -314,6 +315,7 @@ class Scene:
             raise Wrong(f"the server printed {line!r} and has status {self.server.returncode}")
         self.step("halted")
         if self.log:
+            self.show()
             self.audit()
 
     def audit(self):
@@ -327,6 +329,12 @@ class Scene:
         if (came.stdout, came.returncode) != (b"yes\n", 0):
             raise Wrong(f"the audit printed {came.stdout!r} and has status {came.returncode}")
         self.step("the log is audited: yes")
+
+    def show(self):
+        came = subprocess.run([self.program, "show", self.log], stdout=subprocess.PIPE, timeout=4 * WAIT)
+        if came.returncode != 0:
+            raise Wrong(f"showing the log has status {came.returncode}")
+        self.step(f"the log is shown: {came.stdout.count(10)} lines")
 
 
 def free_addresses():
