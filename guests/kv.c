@@ -34,8 +34,8 @@
 enum { CLIENTS = 8, KEYS = 32, KEY = 16, VALUE = VERSION == 1 ? 24 : 40, LINE = 64, REPLY = 48 };
 
 /* -------------------------------------------------------------------------------------------------------------- */
-/* The state. All that has to outlive an update is in this one variable, and build.sh exports it, so the next version's */
-/* transformer finds it. Texts end with a zero. */
+/* The state. All that has to outlive an update is in this one variable, and build.sh exports it, so that the next
+   version's transformer finds it. Texts end with a zero. */
 
 struct client {
     uint32_t fd;       /* 0: this place is free */
@@ -208,8 +208,8 @@ static void answer(struct client *c) {
 }
 
 /* -------------------------------------------------------------------------------------------------------------- */
-/* The connections. Whatever stops half-way, as a line of which a part has come or a reply of which a part is gone, stands */
-/* in `struct client`, and not in a function that would have to go on. */
+/* The connections. Whatever stops half-way, as a line of which a part has come or a reply of which a part is gone, stands
+   in `struct client`, and not in a function that would have to go on. */
 
 static void drop(struct client *c) {
     fd_close(c->fd);

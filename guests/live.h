@@ -2,7 +2,7 @@
    target wasm32, and needs no library:
 
      clang --target=wasm32 -mcpu=mvp -O2 -nostdlib -ffreestanding -Wl,--no-entry -Wl,--strip-all \
-         -Wl,--export=store -o server.wasm server.c
+         -Wl,--stack-first -Wl,-z,stack-size=8192 -Wl,--export=store -o server.wasm server.c
 
    A module exports `_start`, in which it runs from its beginning to its end. One that is to take over from a version
    that runs exports two functions more:
