@@ -12,4 +12,13 @@ server() {
 }
 server -o "$data/echo.wasm"
 server -DREPLY='"+OK\n"' -o "$data/plus.wasm"
+# The state is where the linker puts it: the exported global tells the next version where.
+store() {
+    clang --target=wasm32 -mcpu=mvp -Oz -nostdlib -ffreestanding -Wall -Wextra -Wl,--no-entry -Wl,--strip-all \
+        -Wl,--stack-first -Wl,-z,stack-size=8192 -Wl,--export=store "$@" kv.c
+}
+store -DVERSION=1 -o "$data/kv-1.wasm"
+store -DVERSION=2 -o "$data/kv-2.wasm"
+store -DVERSION=2 -DFIRST=1 -o "$data/kv-wrong.wasm"
+store -DVERSION=2 -DTRAP=1 -o "$data/kv-trap.wasm"
 chmod 644 "$data"/*.wasm

@@ -5,8 +5,6 @@
 #define REPLY "OK\n"
 #endif
 
-enum { LISTENER = 3, TRY_AGAIN = 6 };
-
 /* All state, at one place in both versions, behind the stack and before the globals (see build.sh). */
 struct state {
     uint32_t connection; /* 0 where there is none */
@@ -14,16 +12,16 @@ struct state {
 };
 static struct state *const state = (struct state *)12288;
 
-static uint8_t subscription[48];
-static uint8_t event[32];
+static subscription wanted;
+static event happened;
 static char text[64];
 
 /* Waits until the descriptor can be read, or a while has passed. */
 static void wait_for(uint32_t fd) {
     uint32_t n;
-    subscription[8] = 1;
-    *(uint32_t *)(subscription + 16) = fd;
-    poll_oneoff(subscription, event, 1, &n);
+    wanted.tag = POLL_READ;
+    wanted.fd = fd;
+    poll_oneoff(&wanted, &happened, 1, &n);
 }
 
 static void accept_one(void) {
