@@ -36,6 +36,16 @@ abbrev pub IsUnread : Option FileMap → List (List ℕ) → ℕ → ℕ → Unr
 IsUnread told paths faults faults_now (unread.NoFile path) = StopsAmong paths IsAnyText told path (λ n. IsMissing told path ⊎ Rose faults faults_now)
 IsUnread told paths faults faults_now unread.NoMemory = Unit {0}
 
+-- the file of this path isn't read, or there was no memory to say so
+abbrev pub IsNoFile : List ℕ → Unread → Type 0
+IsNoFile path (unread.NoFile named) = named ≡ path
+IsNoFile path unread.NoMemory = Unit {0}
+
+-- what is answered where the files aren't all read
+abbrev pub answer_to : Unread → Inspected
+answer_to (unread.NoFile path) = inspected.NoFile path
+answer_to unread.NoMemory = inspected.NoMemory
+
 -- the module of this path starts a guest with these arguments, which stands so
 abbrev pub HasGuest : Option FileMap → List ℕ → List (List ℕ) → Standing → Type 0
 HasGuest told path args s = (bytes : List ℕ) × StandsAt told path bytes × (started bytes args ≡ Ok s)

@@ -3,10 +3,10 @@ ghost use Rattle.std.specs.Prelude.{◌≡◌, ◌≤◌, List, ℕ};
 ghost use Rattle.mv_transform.specs.Births.{behaviour};
 ghost use Rattle.mv_inspect.specs.Logs.{HasRecord};
 ghost use Rattle.mv_inspect.specs.Audits.{AreInThrees, IsInspected};
-ghost use Rattle.mv_inspect.specs.Steps.{HasGuest, IsAuditOf, IsBegun, IsBegunOf};
+ghost use Rattle.mv_inspect.specs.Steps.{answer_to as spec_answer_to, HasGuest, IsAuditOf, IsBegun, IsBegunOf};
 
 use crate::listing::{Listed, log_at};
-use crate::naming::{MODULE_CAP, Unread, updates_at};
+use crate::naming::{MODULE_CAP, Unread, no_file, updates_at};
 use mv_audit::first_illegal;
 use mv_calls::{Bytes, Or, Texts};
 use mv_history::{Entries, Updates};
@@ -63,18 +63,20 @@ pub fn audit_at<F: Files>(
     ensures later { F.faults files.old ≤ F.faults files.new }
 {
     match log_at(alloc, log, files) {
-        Listed::NoFile => no_file(alloc, log),
+        Listed::NoFile => answer_to(no_file(alloc, log)),
         Listed::NoMemory => Inspected::NoMemory,
         Listed::Refused(fault) => Inspected::BadLog(fault),
         Listed::Log { args, entries } => audit_log(alloc, &args, &entries, old, updates, files),
     }
 }
 
-/// Says that the file of this path isn't read.
-fn no_file(alloc: Global, path: &Bytes) -> Inspected {
-    match path.copy(alloc) {
-        Ok(path) => Inspected::NoFile { path },
-        Err(_) => Inspected::NoMemory,
+/// What is answered where the files aren't all read.
+fn answer_to(why: Unread) -> Inspected
+    ensures { result ≡ spec_answer_to why }
+{
+    match why {
+        Unread::NoFile(path) => Inspected::NoFile { path },
+        Unread::NoMemory => Inspected::NoMemory,
     }
 }
 
@@ -94,7 +96,7 @@ fn audit_log<F: Files>(
     ensures later { F.faults files.old ≤ F.faults files.new }
 {
     match guest_at(alloc, old, args, files) {
-        Begun::NoFile => no_file(alloc, old),
+        Begun::NoFile => answer_to(no_file(alloc, old)),
         Begun::NoMemory => Inspected::NoMemory,
         Begun::Refused(fault) => Inspected::BadModule(fault),
         Begun::Starts(guest) => audit_run(alloc, guest, entries, updates, files),
@@ -142,8 +144,7 @@ fn audit_run<F: Files>(
 {
     match updates_at(alloc, updates.slice(), files) {
         Ok(updates) => audit_entries(alloc, guest, &updates, entries),
-        Err(Unread::NoFile(path)) => Inspected::NoFile { path },
-        Err(Unread::NoMemory) => Inspected::NoMemory,
+        Err(why) => answer_to(why),
     }
 }
 

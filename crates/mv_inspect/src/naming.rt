@@ -1,10 +1,11 @@
 //! The files of updates, named in threes: module, forward rules, reverse rules.
 ghost use Rattle.std.specs.Prelude.{◌≡◌, ◌≤◌, [], ◌∷◌, IfOk, IfErr};
+ghost use Rattle.mv_history.specs.Rules.{no_rules_text};
 ghost use Rattle.mv_core.specs.Found.{AreRead, HasBytes, HasRules};
 ghost use Rattle.mv_inspect.specs.Audits.{AreInThrees, AreNamed, rules_file, three_files, update_files};
-ghost use Rattle.mv_inspect.specs.Steps.{IsUnread};
+ghost use Rattle.mv_inspect.specs.Steps.{IsNoFile, IsUnread};
 
-use mv_calls::{Bytes, OutOfMemory};
+use mv_calls::Bytes;
 use mv_history::{Update, Updates};
 use mv_outside::{Files, Found};
 use std::alloc::Global;
@@ -24,14 +25,10 @@ pub(crate) enum Unread {
     NoMemory,
 }
 
-impl From<OutOfMemory> for Unread {
-    fn from(_error: OutOfMemory) -> Unread {
-        Unread::NoMemory
-    }
-}
-
 /// Says that the file of this path isn't read.
-fn no_file(alloc: Global, path: &Bytes) -> Unread {
+pub(crate) fn no_file(alloc: Global, path: &Bytes) -> Unread
+    ensures { IsNoFile path.now result }
+{
     match path.copy(alloc) {
         Ok(path) => Unread::NoFile(path),
         Err(_) => Unread::NoMemory,
@@ -39,7 +36,12 @@ fn no_file(alloc: Global, path: &Bytes) -> Unread {
 }
 
 /// Reads a file, one byte more than the cap at most.
-fn file_at<F: Files>(alloc: Global, path: &Bytes, cap: usize, files: &mut F) -> Result<Bytes, Unread>
+fn file_at<F: Files>(
+    alloc: Global,
+    path: &Bytes,
+    cap: usize,
+    files: &mut F,
+) -> Result<Bytes, Unread>
     ensures read { IfOk result (HasBytes (F.content files.old) cap path.now) }
     ensures unread { IfErr result (IsUnread (F.content files.old) (path.now ∷ []) (F.faults files.old) (F.faults files.new)) }
     ensures same { F.content files.new ≡ F.content files.old }
@@ -52,6 +54,17 @@ fn file_at<F: Files>(alloc: Global, path: &Bytes, cap: usize, files: &mut F) -> 
     }
 }
 
+/// The file of no rules.
+fn no_rules(alloc: Global) -> Result<Bytes, Unread>
+    ensures text { IfOk result (λ bytes. bytes ≡ no_rules_text) }
+    ensures memory { IfErr result (λ unread. unread ≡ Unread.NoMemory) }
+{
+    match Bytes::from_slice(alloc, b"mvrules 1\n") {
+        Ok(bytes) => Ok(bytes),
+        Err(_) => Err(Unread::NoMemory),
+    }
+}
+
 /// Reads the rules that a word names. The word `none` names no file, and stands for no rules.
 fn rules_at<F: Files>(alloc: Global, name: &Bytes, files: &mut F) -> Result<Bytes, Unread>
     ensures read { IfOk result (HasRules (F.content files.old) name.now) }
@@ -60,7 +73,7 @@ fn rules_at<F: Files>(alloc: Global, name: &Bytes, files: &mut F) -> Result<Byte
     ensures later { F.faults files.old ≤ F.faults files.new }
 {
     if name.slice() == b"none".as_slice() {
-        return Ok(Bytes::from_slice(alloc, b"mvrules 1\n")?);
+        return no_rules(alloc);
     }
     file_at(alloc, name, RULES_CAP, files)
 }
@@ -89,7 +102,11 @@ fn update_at<F: Files>(
 }
 
 /// Reads the files of these updates.
-pub(crate) fn updates_at<F: Files>(alloc: Global, names: &[Bytes], files: &mut F) -> Result<Updates, Unread>
+pub(crate) fn updates_at<F: Files>(
+    alloc: Global,
+    names: &[Bytes],
+    files: &mut F,
+) -> Result<Updates, Unread>
     requires { AreInThrees names.now }
     ensures read { IfOk result (λ updates. AreNamed (F.content files.old) names.now updates.list) }
     ensures unread { IfErr result (IsUnread (F.content files.old) (update_files names.now) (F.faults files.old) (F.faults files.new)) }
@@ -106,9 +123,9 @@ pub(crate) fn updates_at<F: Files>(alloc: Global, names: &[Bytes], files: &mut F
             &names[place + 2],
             files,
         )?;
-        if updates.push(update).is_err() {
+        let Ok(_) = updates.push(update) else {
             return Err(Unread::NoMemory);
-        }
+        };
     }
     Ok(Updates::from_vec(updates))
 }
