@@ -1,16 +1,15 @@
 -- What an audit answers, from what its files are found to be.
-use Rattle.std.proofs.Common.{◌≡◌, ℕ, zero, suc, ◌≤◌, ◌⊎◌, inl, inr, List, [], ◌∷◌, Option, Some, None, Ok, Err, refl, sym, subst}
+use Rattle.std.proofs.Common.{◌≡◌, ℕ, suc, ◌≤◌, ◌⊎◌, List, ◌∷◌, Option, Err, sym, subst}
 use Rattle.mv_syntax.specs.declared.fault.BornFault.{BornFault}
 use Rattle.mv_outside.specs.Causes.{Rose}
 use Rattle.mv_outside.specs.Files.{FileMap}
 use Rattle.mv_history.specs.declared.log.Entry.{Entry}
-use Rattle.mv_history.specs.declared.updates.Update.{Update}
 use Rattle.mv_guest.specs.Standing.{Standing}
 use Rattle.mv_transform.specs.Births.{started}
 use Rattle.mv_inspect.specs.Told.{FileIs, IsMissing}
 use Rattle.mv_inspect.specs.Logs.{HasRecord}
-use Rattle.mv_inspect.specs.Audits.{AreNamed, AuditGoes, HasSomeLog, IsInspected, NotStarted, StartsWith, update_files}
-use Rattle.mv_inspect.specs.Steps.{HasGuest, IsAuditOf, IsNoFile, IsUnread, answer_to}
+use Rattle.mv_inspect.specs.Audits.{AuditGoes, HasSomeLog, IsInspected, NotStarted, StartsWith, update_files}
+use Rattle.mv_inspect.specs.Steps.{HasGuest, IsNoFile, IsUnread, answer_to}
 use Rattle.mv_inspect.specs.declared.naming.Unread.{Unread}
 use Rattle.mv_inspect.specs.declared.naming.Unread.TheVariants as unread
 use Rattle.mv_inspect.specs.declared.auditing.Inspected.{Inspected}
@@ -18,11 +17,6 @@ use Rattle.mv_inspect.specs.declared.auditing.Inspected.TheVariants as inspected
 use Rattle.mv_inspect.proofs.Stops.{later_why, stops_first, stops_next}
 
 module _ (told : Option FileMap) (log old : List ℕ) (names : List (List ℕ)) (a b : ℕ) where
-  pub answers_log : (e : Unread) → IsNoFile log e → IsMissing told log ⊎ Rose a b → IsInspected told log old names a b (answer_to e)
-  answers_log (unread.NoFile named) is why =
-      subst (λ p. IsInspected told log old names a b (inspected.NoFile p)) (sym is) (stops_first told log (AuditGoes told log) _ (old ∷ update_files names) why)
-  answers_log unread.NoMemory is why = tt
-
   module _ (args : List (List ℕ)) (entries : List Entry) (has : HasRecord told log args entries) where
     log_goes : FileIs told log HasSomeLog
     log_goes files e = (has.0, has.1 files e, (args, entries, has.2))
@@ -46,16 +40,6 @@ module _ (told : Option FileMap) (log old : List ℕ) (names : List (List ℕ)) 
           stops_next told path (AuditGoes told log) _ log (old ∷ update_files names) log_goes
           (stops_next told path (λ n. AuditGoes told log (suc n)) _ old (update_files names) start_goes is)
       answers_updates unread.NoMemory is = tt
-
-      pub answers_entries : (updates : List Update) (i : Inspected) → AreNamed told names updates → IsAuditOf updates first entries i → IsInspected told log old names a b i
-      answers_entries updates (inspected.NoFile path) named is = absurd is
-      answers_entries updates inspected.NoMemory named is = tt
-      answers_entries updates (inspected.BadLog fault) named is = absurd is
-      answers_entries updates (inspected.BadModule fault) named is = absurd is
-      answers_entries updates inspected.Legal named is =
-          record { text = has.0; log_is = has.1; args = args; entries = entries; has_log = has.2; bytes = starts.0; module_is = starts.1; updates = updates; updates_are = named; first = first; starts = starts.2; answer_is = is }
-      answers_entries updates (inspected.Illegal entry) named is =
-          record { text = has.0; log_is = has.1; args = args; entries = entries; has_log = has.2; bytes = starts.0; module_is = starts.1; updates = updates; updates_are = named; first = first; starts = starts.2; answer_is = is }
 
 -- ## After other reads, which change no file
 

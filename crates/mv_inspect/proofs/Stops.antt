@@ -1,10 +1,10 @@
 -- The first of some files that isn't read, when more files stand before it or behind it.
-use Rattle.std.proofs.Common.{◌≡◌, ℕ, zero, suc, ◌+◌, ◌-◌, ◌^◌, ◌≤◌, ◌<◌, min, ◌⊎◌, inl, inr, List, [], ◌∷◌, ◌++◌, Option, Some, None, refl, sym, ap, ◌∙◌, subst, arith}
+use Rattle.std.proofs.Common.{◌≡◌, ℕ, zero, suc, ◌≤◌, ◌<◌, ◌⊎◌, inl, inr, List, [], ◌∷◌, ◌++◌, Option, Some, None, refl, sym, ◌∙◌, subst, arith}
 use Rattle.std.specs.Prelude.{slice_get}
 use Rattle.mv_outside.specs.Causes.{Rose}
 use Rattle.mv_outside.specs.Files.{FileMap}
 use Rattle.mv_inspect.specs.Told.{FileIs, IsMissing, StopsAmong}
-use Rattle.mv_inspect.specs.Steps.{IsAnyText, IsNoFile, IsUnread}
+use Rattle.mv_inspect.specs.Steps.{IsAnyText, IsUnread}
 use Rattle.mv_inspect.specs.declared.naming.Unread.{Unread}
 use Rattle.mv_inspect.specs.declared.naming.Unread.TheVariants as unread
 
@@ -77,7 +77,3 @@ unread_after told paths a b c unread.NoMemory later is = tt
 -- what isn't read after other reads wasn't there before them, where they change no file
 pub unread_later : (told mid : Option FileMap) (paths : List (List ℕ)) (a b c : ℕ) (e : Unread) → mid ≡ told → a ≤ b → IsUnread mid paths b c e → IsUnread told paths a c e
 unread_later told mid paths a b c e same later is = unread_after told paths a b c e later (subst (λ t. IsUnread t paths b c e) same is)
-
-pub unread_one : (told : Option FileMap) (path : List ℕ) (faults now : ℕ) (e : Unread) → IsNoFile path e → IsMissing told path ⊎ Rose faults now → IsUnread told (path ∷ []) faults now e
-unread_one told path faults now (unread.NoFile named) is why = subst (λ p. IsUnread told (path ∷ []) faults now (unread.NoFile p)) (sym is) (stops_first told path IsAnyText _ [] why)
-unread_one told path faults now unread.NoMemory is why = tt

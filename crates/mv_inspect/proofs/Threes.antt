@@ -1,5 +1,5 @@
 -- The files of updates, three at a time.
-use Rattle.std.proofs.Common.{◌≡◌, ◌≢◌, ℕ, zero, suc, ◌+◌, ◌*◌, ◌/◌, ◌-◌, ◌≤◌, ◌<◌, Bool, true, false, ◌⊎◌, inl, inr, List, [], ◌∷◌, ◌++◌, length, drop, get_or, Option, refl, sym, ap, ◌∙◌, subst, arith, add-one, length-drop, append_assoc}
+use Rattle.std.proofs.Common.{◌≡◌, ℕ, suc, ◌+◌, ◌≤◌, ◌<◌, Bool, true, false, inl, inr, List, [], ◌∷◌, ◌++◌, length, drop, get_or, Option, refl, sym, ap, ◌∙◌, subst, arith, length-drop, append_assoc}
 use Rattle.std.proofs.Math.Seq.{drop-cons}
 use Rattle.std.specs.Prelude.{if◌then◌else◌}
 use Rattle.std.specs.Str.{bytes_eq}
@@ -31,17 +31,6 @@ rules_there_by told name bytes false is (inr has) = (is_there told rules_cap nam
 rules_there : (told : Option FileMap) (name bytes : List ℕ) → HasRules told name bytes → AreThere told (rules_file name)
 rules_there told name bytes has = rules_there_by told name bytes (bytes_eq name none_word) refl has
 
-rules_file_by : (name : List ℕ) (none : Bool) → bytes_eq name none_word ≡ none → name ≢ none_word → (if none then [] else name ∷ []) ≡ name ∷ []
-rules_file_by name true is some = absurd (some ((bytes_eq-Decides name none_word).0 is))
-rules_file_by name false is some = refl
-
--- rules that aren't `none` are a file
-some_file : (name : List ℕ) → name ≢ none_word → rules_file name ≡ name ∷ []
-some_file name some = rules_file_by name (bytes_eq name none_word) refl some
-
-pub unread_rules : (told : Option FileMap) (name : List ℕ) (faults now : ℕ) (e : Unread) → name ≢ none_word → IsUnread told (name ∷ []) faults now e → IsUnread told (rules_file name) faults now e
-unread_rules told name faults now e some is = subst (λ l. IsUnread told l faults now e) (sym (some_file name some)) is
-
 -- ## One update
 
 three_there : (told : Option FileMap) (m f r : List ℕ) (files : Update) → AreRead told m f r files → AreThere told ((m ∷ []) ++ (rules_file f ++ rules_file r))
@@ -52,9 +41,6 @@ three_there told m f r files are = (is_there told module_cap m files.«module» 
     all_there told (x ∷ a) b there more = (there.0, all_there told a b there.1 more)
 
 module _ (told : Option FileMap) (m f r : List ℕ) (faults now : ℕ) (e : Unread) where
-  pub unread_module : IsUnread told (m ∷ []) faults now e → IsUnread told (three_files m f r) faults now e
-  unread_module is = unread_front told (m ∷ []) (rules_file f ++ rules_file r) faults now e is
-
   pub unread_forward : (mid : Option FileMap) (before : ℕ) (bytes : List ℕ) → HasBytes told module_cap m bytes → mid ≡ told → faults ≤ before
       → IsUnread mid (rules_file f) before now e → IsUnread told (three_files m f r) faults now e
   unread_forward mid before bytes has same later is =
@@ -83,9 +69,6 @@ pub record IsSoFar (told now : Option FileMap) (faults faults_now : ℕ) (names 
   pub threes : AreInThrees (drop place names)
   pub joins : (more : List Update) → AreNamed told (drop place names) more → AreNamed told names (updates ++ more)
   pub stops : (e : Unread) (last : ℕ) → IsUnread told (update_files (drop place names)) faults last e → IsUnread told (update_files names) faults last e
-
-pub so_far_none : (told : Option FileMap) (faults : ℕ) (names : List (List ℕ)) → AreInThrees names → IsSoFar told told faults faults names 0 []
-so_far_none told faults names threes = record { same = refl; later = omega arith; threes = threes; joins = λ more named. named; stops = λ e last is. is }
 
 pub three_at : (names : List (List ℕ)) (place next : ℕ) (m f r : List ℕ) → place + 2 < length names → next ≡ place + 3
     → m ≡ get_or names place m → f ≡ get_or names (place + 1) f → r ≡ get_or names (place + 2) r → drop place names ≡ m ∷ f ∷ r ∷ drop next names

@@ -1,5 +1,5 @@
 -- More is read of a file than it may have, so what was read is the whole file, or is too long as the file is.
-use Rattle.std.proofs.Common.{◌≡◌, ℕ, ◌+◌, ◌≤◌, ◌<◌, ◌^◌, Bool, true, false, ltb, List, take, length, Option, Some, Result, Ok, Err, refl, sym, ap, ◌∙◌, subst, arith, inl, inr}
+use Rattle.std.proofs.Common.{◌≡◌, ℕ, ◌≤◌, ◌<◌, ◌^◌, Bool, true, false, ltb, List, take, length, Option, Some, Result, Ok, Err, refl, sym, ap, ◌∙◌, arith}
 use Rattle.std.proofs.lemmas.List.{take_all, length-take}
 use Rattle.std.proofs.lemmas.Bool.{ltb-true, ltb-false, lt-ltb}
 use Rattle.mv_syntax.specs.declared.fault.ReadFault.{ReadFault}
@@ -12,7 +12,7 @@ use Rattle.mv_outside.specs.Files.{FileMap}
 use Rattle.mv_record.specs.File.{log_of}
 use Rattle.mv_record.specs.declared.fault.RecordFault.{RecordFault}
 use Rattle.mv_record.specs.declared.fault.RecordKind.TheVariants as record_kind
-use Rattle.mv_transform.specs.Births.{behaviour, started, started_from, with_module}
+use Rattle.mv_transform.specs.Births.{started, started_from, with_module}
 use Rattle.mv_start.specs.Instances.{started_instance}
 use Rattle.mv_guest.specs.Standing.{Standing}
 use Rattle.mv_inspect.specs.Told.{FileIs, StandsAt}

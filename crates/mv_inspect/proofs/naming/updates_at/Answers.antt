@@ -1,6 +1,6 @@
-use Rattle.std.proofs.Common.{◌≡◌, ◌+◌, ◌*◌, ◌<◌, ◌∷◌, length, drop, arith}
+use Rattle.std.proofs.Common.{◌+◌, ◌*◌, ◌<◌, length, arith}
 use Rattle.std.proofs.lemmas.Result.{err_from_is_err_and}
-use Rattle.mv_inspect.proofs.Threes.{so_far_done, so_far_next, so_far_none, so_far_stops, three_at}
+use Rattle.mv_inspect.proofs.Threes.{so_far_done, so_far_next, so_far_stops, three_at}
 use Rattle.mv_inspect.proofs.naming.updates_at.Goals as goal
 
 pub returns-in_err-update-clause-unread : goal.returns-in_err-update-clause-unread
