@@ -1,0 +1,4 @@
+pub mod Wholes
+pub mod Stops
+pub mod Threes
+pub mod Audited
