@@ -1,5 +1,7 @@
 pub mod Wholes
+pub mod Writable
 pub mod Letters
 pub mod Comings
 pub mod Showings
+pub mod Updates
 pub mod Exactness

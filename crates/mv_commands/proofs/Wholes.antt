@@ -4,11 +4,9 @@ use Rattle.std.proofs.lemmas.List.{take_all, length-take}
 use Rattle.std.proofs.lemmas.Bool.{ltb-true, ltb-false, lt-ltb}
 use Rattle.mv_syntax.specs.declared.fault.ReadFault.{ReadFault}
 use Rattle.mv_syntax.specs.declared.fault.ReadKind.TheVariants.{Limit}
-use Rattle.mv_syntax.specs.declared.fault.BornFault.{BornFault}
 use Rattle.mv_syntax.specs.declared.fault.BornFault.TheVariants as born
 use Rattle.mv_syntax.specs.Sections.{Parts}
 use Rattle.mv_syntax.specs.Modules.{Spells, module_at}
-use Rattle.mv_syntax.specs.ModuleLaws.{module_complete}
 use Rattle.mv_rules.specs.declared.fault.RuleKind.TheVariants.{Size}
 use Rattle.mv_rules.specs.RulesText.{rules_in}
 use Rattle.mv_outside.specs.Files.{FileMap}
@@ -16,11 +14,12 @@ use Rattle.mv_transform.specs.Births.{behaviour, started, started_from, with_mod
 use Rattle.mv_start.specs.Instances.{started_instance}
 use Rattle.mv_guest.specs.Standing.{Standing}
 use Rattle.mv_rehearse.specs.declared.beats.Beat.{Beat}
-use Rattle.mv_commands.specs.Named.{HasFault, IsInvalid, IsValidFile, SaysOfModule, SaysOfRules, FileIs, StandsAt}
-use Rattle.mv_commands.specs.Loading.{Meaning, IsJudged, IsJudgedOf, IsLoaded, IsStarted, IsPlanned, IsPlannedOf}
+use Rattle.mv_commands.specs.Named.{IsInvalid, IsValidFile, SaysOfModule, SaysOfRules}
+use Rattle.mv_inspect.specs.Told.{FileIs, StandsAt}
+use Rattle.mv_commands.specs.Loading.{IsJudged, IsJudgedOf, IsLoaded, IsStarted, IsPlanned, IsPlannedOf}
 use Rattle.mv_commands.specs.Schedules.{schedule_of}
 use Rattle.mv_commands.specs.declared.ending.Finding.{Finding}
-use Rattle.mv_commands.specs.declared.ending.Finding.TheVariants.{Refused, Valid, BadRules, Rules, BadSchedule}
+use Rattle.mv_commands.specs.declared.ending.Finding.TheVariants.{Refused, Valid, BadRules, Rules, BadSchedule, BadLog}
 use Rattle.mv_commands.specs.declared.ending.ScheduleFault.{ScheduleFault}
 use Rattle.mv_commands.specs.declared.ending.ScheduleFault.TheVariants as schedule_fault
 use Rattle.mv_commands.specs.declared.judging.Judged.{Judged}
@@ -70,6 +69,7 @@ module_says text all Valid read is = subst IsValidFile (spelled_whole text all i
 module_says text all (BadRules fault) read is = absurd is
 module_says text all (Rules count) read is = absurd is
 module_says text all (BadSchedule fault) read is = absurd is
+module_says text all (BadLog fault) read is = absurd is
 
 -- ## Rules
 
@@ -95,6 +95,7 @@ rules_say text all (Rules count) same is = (is.0, sym same ∙ is.1, is.2, is.3)
 rules_say text all (Refused fault) same is = absurd is
 rules_say text all Valid same is = absurd is
 rules_say text all (BadSchedule fault) same is = absurd is
+rules_say text all (BadLog fault) same is = absurd is
 
 -- ## Schedules
 

@@ -3,9 +3,10 @@ use Rattle.std.specs.Prelude.{◌≡◌, ◌≤◌, ◌⊎◌, ℕ, List, [], �
 use Rattle.mv_calls.specs.declared.calls.Item.{Item}
 use Rattle.mv_outside.specs.Began.{Began}
 use Rattle.mv_outside.specs.Causes.{Rose}
-use Rattle.mv_outside.specs.Files.{FileMap}
+use Rattle.mv_outside.specs.Files.{ChangesOnly, FileMap, HasFile}
 use Rattle.mv_history.specs.Ends.{EndsBy}
 use Rattle.mv_history.specs.World.{AreLegal, begun, texts}
+use Rattle.mv_history.specs.declared.log.Entry.{Entry}
 use Rattle.mv_history.specs.declared.log.How.{How}
 use Rattle.mv_history.specs.declared.log.How.TheVariants as how
 use Rattle.mv_history.specs.declared.log.Log.{Log}
@@ -18,12 +19,16 @@ use Rattle.mv_transform.specs.Births.{behaviour, started}
 use Rattle.mv_words.specs.Commands.{Says}
 use Rattle.mv_words.specs.declared.command.Command.{Command}
 use Rattle.mv_words.specs.declared.command.Command.TheVariants as ask
-use Rattle.mv_commands.specs.Lines.{Shows, finding_status}
-use Rattle.mv_commands.specs.Named.{FileIs, FoundAt, GoesOn, IsMissing, StandsAt, StopsAt, files_of}
+use Rattle.mv_record.specs.Fitting.{IsFile}
+use Rattle.mv_inspect.specs.Audits.{AreInThrees, IsAudited}
+use Rattle.mv_inspect.specs.Logs.{HasLog}
+use Rattle.mv_inspect.specs.Told.{FileIs, IsMissing, StandsAt}
+use Rattle.mv_commands.specs.Lines.{Shows, audit_status, finding_status}
+use Rattle.mv_commands.specs.Named.{FoundAt, GoesOn, StopsAt, files_of}
 use Rattle.mv_commands.specs.Schedules.{schedule_of}
 use Rattle.mv_commands.specs.declared.ending.Finding.{Finding}
 use Rattle.mv_commands.specs.declared.ending.Ending.{Ending}
-use Rattle.mv_commands.specs.declared.ending.Ending.TheVariants.{BadWords, NoMemory, Told, NoFile, Found, Ran}
+use Rattle.mv_commands.specs.declared.ending.Ending.TheVariants.{BadWords, NoMemory, Told, NoFile, Found, Ran, LogFailed, LogNotMade, Audited, Shown}
 
 -- what kernel, console and files tell at a moment, and how often each has failed
 pub record Seen : Type 0 where
@@ -110,14 +115,53 @@ pub record RanServed (old : List ℕ) (args : List (List ℕ)) (before after : S
   pub orders : OrdersAnswered began log.entries.list after.coming after.said after.console_faults
   pub whole : EndsBy log.entries.list how.Cut → ⊥
 
-abbrev pub RanFor : Command → Seen → Seen → Log → How → Type 0
-RanFor (ask.Run old args) before after log h = RanAlone old args before after log h
-RanFor (ask.Rehearse old schedule args ring) before after log h = RanBy old schedule args ring before after log h
-RanFor (ask.Serve old args ring) before after log h = RanServed old args before after log h
-RanFor (ask.Check path) before after log h = ⊥
-RanFor (ask.Rules forward) before after log h = ⊥
-RanFor ask.Help before after log h = ⊥
-RanFor ask.Version before after log h = ⊥
+-- a guest ran for the command
+abbrev pub RunOf : Command → Seen → Seen → Log → How → Type 0
+RunOf (ask.Run old args) before after log h = RanAlone old args before after log h
+RunOf (ask.Rehearse old schedule args ring path) before after log h = RanBy old schedule args ring before after log h
+RunOf (ask.Serve old args ring path) before after log h = RanServed old args before after log h
+RunOf command before after log h = ⊥
+
+-- ## The file of the log
+
+-- where the command wants its log
+abbrev pub log_path : Command → Option (List ℕ)
+log_path (ask.Rehearse old schedule args ring path) = path
+log_path (ask.Serve old args ring path) = path
+log_path command = None
+
+-- nothing changed but files
+pub record FilesAlone (mid after : Seen) : Type 0 where
+  pub done : after.done ≡ mid.done
+  pub coming : after.coming ≡ mid.coming
+  pub said : after.said ≡ mid.said
+  pub kernel_faults : after.kernel_faults ≡ mid.kernel_faults
+  pub console_faults : after.console_faults ≡ mid.console_faults
+  pub file_faults : mid.file_faults ≤ after.file_faults
+
+-- the file of this path is the log's, and every other file is as it was
+pub record HasLogFile (path : List ℕ) (mid : Option FileMap) (log : Log) (now : Option FileMap) : Type 0 where
+  pub text : List ℕ
+  pub is_file : IsFile text log.start.args log.entries.list
+  pub stands : HasFile now path text
+  pub others : ChangesOnly mid path now
+
+-- the log is in the file of this path, or no file is wanted
+abbrev pub IsKept : Option (List ℕ) → Seen → Log → Seen → Type 0
+IsKept None mid log after = after ≡ mid
+IsKept (Some path) mid log after = FilesAlone mid after × HasLogFile path mid.files log after.files
+
+-- between the end of the run and that of the command the log was written where it is wanted, or that failed, or there was no
+-- memory for it
+abbrev pub Keeps : Option (List ℕ) → Seen → Log → Seen → Ending → Type 0
+Keeps wanted mid log after (Ran h) = IsKept wanted mid log after
+Keeps wanted mid log after (LogFailed path h) = (wanted ≡ Some path) × FilesAlone mid after × ChangesOnly mid.files path after.files × Rose mid.file_faults after.file_faults
+Keeps wanted mid log after (LogNotMade h) = ((path : List ℕ) × (wanted ≡ Some path)) × FilesAlone mid after × (after.files ≡ mid.files)
+Keeps wanted mid log after ending = ⊥
+
+-- a guest ran for the command, its log ended so, and the ending says what became of the log's file
+abbrev pub RanFor : Command → Seen → Seen → Log → How → Ending → Type 0
+RanFor command before after log h ending = (mid : Seen) × RunOf command before mid log h × Keeps (log_path command) mid log after ending
 
 -- ## The cause of an ending
 
@@ -128,14 +172,33 @@ IsAbout command = ⊥
 
 abbrev pub RunsGuest : Command → Type 0
 RunsGuest (ask.Run old args) = Unit {0}
-RunsGuest (ask.Rehearse old schedule args ring) = Unit {0}
-RunsGuest (ask.Serve old args ring) = Unit {0}
+RunsGuest (ask.Rehearse old schedule args ring log) = Unit {0}
+RunsGuest (ask.Serve old args ring log) = Unit {0}
 RunsGuest command = ⊥
 
--- the capacity that a command gives is one of a feed
+abbrev pub IsAudit : Command → Type 0
+IsAudit (ask.Audit log old updates) = Unit {0}
+IsAudit command = ⊥
+
+abbrev pub IsShow : Command → Type 0
+IsShow (ask.Show log) = Unit {0}
+IsShow command = ⊥
+
+-- the command audits, and the files give this answer
+abbrev pub AuditOf : Command → Option FileMap → Option ℕ → Type 0
+AuditOf (ask.Audit log old updates) told answer = IsAudited told log old updates answer
+AuditOf command told answer = ⊥
+
+-- the command shows a log, and these are the entries of its file
+abbrev pub ShowOf : Command → Option FileMap → List Entry → Type 0
+ShowOf (ask.Show log) told entries = (text : List ℕ) × StandsAt told log text × ((args : List (List ℕ)) × HasLog text args entries)
+ShowOf command told entries = ⊥
+
+-- the capacity that a command gives is one of a feed, and the files of updates come in threes
 abbrev pub IsFeasible : Command → Type 0
-IsFeasible (ask.Rehearse old schedule args ring) = (4 ≤ ring) × (ring ≤ 4096)
-IsFeasible (ask.Serve old args ring) = (4 ≤ ring) × (ring ≤ 4096)
+IsFeasible (ask.Rehearse old schedule args ring log) = (4 ≤ ring) × (ring ≤ 4096)
+IsFeasible (ask.Serve old args ring log) = (4 ≤ ring) × (ring ≤ 4096)
+IsFeasible (ask.Audit log old updates) = AreInThrees updates
 IsFeasible command = Unit {0}
 
 -- which commands there are: each, or each that starts no thread
@@ -146,7 +209,7 @@ abbrev pub IsAny : Known
 IsAny command = Unit {0}
 
 abbrev pub IsOnOneThread : Known
-IsOnOneThread (ask.Serve old args ring) = ⊥
+IsOnOneThread (ask.Serve old args ring log) = ⊥
 IsOnOneThread command = Unit {0}
 
 -- of this command
@@ -157,8 +220,12 @@ CauseOf command before after log Told = IsAbout command × NoGuest before after 
 CauseOf command before after log (NoFile path) =
     StopsAt command before.files path (λ n. IsMissing before.files path ⊎ Rose before.file_faults after.file_faults) × NoGuest before after log
 CauseOf command before after log (Found path finding) =
-    StopsAt command before.files path (λ n. FileIs before.files path (λ text. FoundAt command n text finding)) × NoGuest before after log
-CauseOf command before after log (Ran h) = RanFor command before after log h
+    StopsAt command before.files path (λ n. FileIs before.files path (λ text. FoundAt command before.files n text finding)) × NoGuest before after log
+CauseOf command before after log (Ran h) = RanFor command before after log h (Ran h)
+CauseOf command before after log (LogFailed path h) = RanFor command before after log h (LogFailed path h)
+CauseOf command before after log (LogNotMade h) = RanFor command before after log h (LogNotMade h)
+CauseOf command before after log (Audited illegal) = AuditOf command before.files illegal × NoGuest before after log
+CauseOf command before after log (Shown entries) = ShowOf command before.files entries.list × NoGuest before after log
 
 -- of these words, over the commands that there are; where memory was wanted before they were read, nobody knows what they say
 abbrev pub HasCause : Known → List (List ℕ) → Seen → Seen → Log → Ending → Type 0
@@ -181,6 +248,10 @@ Otherwise sink_faults status = ((status ≡ 7) × Rose sink_faults.0 sink_faults
 abbrev pub Fails : Seen → Seen → ℕ × ℕ → ℕ → Type 0
 Fails before after sink_faults status = ((status ≡ 3) × Rose before.file_faults after.file_faults) ⊎ Otherwise sink_faults status
 
+-- each file of the command is there, and it goes on past it
+abbrev pub AllGoOn : Command → Option FileMap → Type 0
+AllGoOn command told = (n : ℕ) (path : List ℕ) → slice_get (files_of command) n ≡ Some path → FileIs told path (GoesOn command told n)
+
 -- Which status comes, by what the words and the told files are, unless something fails or memory is wanted.
 pub record IsExact (Is : Known) (words : List (List ℕ)) (before after : Seen) (log : Log) (sink_faults : ℕ × ℕ) (status : ℕ) : Type 0 where
   pub bad_words : ((command : Command) → Is command → Says words command → ⊥) → (status ≡ 2) ⊎ Otherwise sink_faults status
@@ -188,10 +259,14 @@ pub record IsExact (Is : Known) (words : List (List ℕ)) (before after : Seen) 
   pub missing : (command : Command) (files : FileMap) (path : List ℕ) → Is command → Says words command → before.files ≡ Some files →
       StopsAt command before.files path (λ n. files path ≡ None) → (status ≡ 3) ⊎ Otherwise sink_faults status
   pub found : (command : Command) (files : FileMap) (path : List ℕ) (finding : Finding) → Is command → Says words command → before.files ≡ Some files →
-      StopsAt command before.files path (λ n. FileIs before.files path (λ text. FoundAt command n text finding)) →
+      StopsAt command before.files path (λ n. FileIs before.files path (λ text. FoundAt command before.files n text finding)) →
       (status ≡ finding_status finding) ⊎ Fails before after sink_faults status
+  pub audited : (command : Command) (files : FileMap) → Is command → Says words command → IsAudit command → before.files ≡ Some files → AllGoOn command before.files →
+      ((answer : Option ℕ) × AuditOf command before.files answer × (status ≡ audit_status answer)) ⊎ Fails before after sink_faults status
+  pub shown : (command : Command) (files : FileMap) → Is command → Says words command → IsShow command → before.files ≡ Some files → AllGoOn command before.files →
+      (status ≡ 0) ⊎ Fails before after sink_faults status
   pub ran : (command : Command) (files : FileMap) → Is command → Says words command → RunsGuest command → before.files ≡ Some files →
-      ((n : ℕ) (path : List ℕ) → slice_get (files_of command) n ≡ Some path → FileIs before.files path (GoesOn command n)) →
+      AllGoOn command before.files →
       ((h : How) × EndsBy log.entries.list h × (status ≡ end_status h)) ⊎ Fails before after sink_faults status
 
 -- ## The log
@@ -200,3 +275,14 @@ pub record IsExact (Is : Known) (words : List (List ℕ)) (before after : Seen) 
 abbrev pub IsLegal : Log → Type 0
 IsLegal log =
     (log.entries.list ≡ []) ⊎ ((first : Standing) × (started log.start.«module» log.start.args ≡ Ok first) × AreLegal behaviour log.updates.list (begun first) log.entries.list)
+
+-- ## The files
+
+-- the words name this path for the log
+abbrev pub NamesLog : List (List ℕ) → List ℕ → Type 0
+NamesLog words path = (command : Command) × Says words command × (log_path command ≡ Some path)
+
+-- each file is as before, but one that the words name for the log
+abbrev pub KeepsFiles : List (List ℕ) → Option FileMap → Option FileMap → Type 0
+KeepsFiles words None now = now ≡ None
+KeepsFiles words (Some before) now = (files : FileMap) × (now ≡ Some files) × ((path : List ℕ) → (NamesLog words path → ⊥) → files path ≡ before path)

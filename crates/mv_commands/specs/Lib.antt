@@ -4,3 +4,4 @@ pub mod Schedules
 pub mod Named
 pub mod Causes
 pub mod Loading
+pub mod Keeping

@@ -1,5 +1,5 @@
 -- The status and the line of each ending (docs/GUIDE.md, "Statuses"; docs/FORMATS.md, "Fault lines").
-use Rattle.std.specs.Prelude.{◌≡◌, ℕ, ◌==◌, if◌then◌else◌, List, [], ◌∷◌, ◌++◌, codes, decimal, Option, ◌⊎◌}
+use Rattle.std.specs.Prelude.{◌≡◌, ℕ, List, [], ◌∷◌, ◌++◌, codes, decimal, Option, Some, None, ◌⊎◌}
 use Rattle.mv_calls.specs.declared.trap.Trap.{Trap}
 use Rattle.mv_calls.specs.declared.trap.Trap.TheVariants as trap
 use Rattle.mv_syntax.specs.declared.fault.ReadKind.{ReadKind}
@@ -12,6 +12,9 @@ use Rattle.mv_syntax.specs.declared.fault.BornFault.{BornFault}
 use Rattle.mv_syntax.specs.declared.fault.BornFault.TheVariants as born
 use Rattle.mv_rules.specs.declared.fault.RuleKind.{RuleKind}
 use Rattle.mv_rules.specs.declared.fault.RuleKind.TheVariants as rule
+use Rattle.mv_record.specs.declared.fault.RecordKind.{RecordKind}
+use Rattle.mv_record.specs.declared.fault.RecordKind.TheVariants as record_kind
+use Rattle.mv_show.specs.Lines.{log_text}
 use Rattle.mv_history.specs.declared.log.How.{How}
 use Rattle.mv_history.specs.declared.log.How.TheVariants as how
 use Rattle.mv_rehearse.specs.Runs.{end_status}
@@ -20,9 +23,9 @@ use Rattle.mv_outside.specs.Told.{told_more, AddsPart}
 use Rattle.mv_commands.specs.declared.ending.ScheduleFault.{ScheduleFault}
 use Rattle.mv_commands.specs.declared.ending.ScheduleFault.TheVariants.{Letter, Limit}
 use Rattle.mv_commands.specs.declared.ending.Finding.{Finding}
-use Rattle.mv_commands.specs.declared.ending.Finding.TheVariants.{Refused, Valid, BadRules, Rules, BadSchedule}
+use Rattle.mv_commands.specs.declared.ending.Finding.TheVariants.{Refused, Valid, BadRules, Rules, BadSchedule, BadLog}
 use Rattle.mv_commands.specs.declared.ending.Ending.{Ending}
-use Rattle.mv_commands.specs.declared.ending.Ending.TheVariants.{BadWords, NoMemory, Told, NoFile, Found, Ran}
+use Rattle.mv_commands.specs.declared.ending.Ending.TheVariants.{BadWords, NoMemory, Told, NoFile, Found, Ran, LogFailed, LogNotMade, Audited, Shown}
 
 -- ## Names
 
@@ -86,6 +89,14 @@ rule_kind_text rule.Reads = codes "Reads"
 rule_kind_text rule.Accepts = codes "Accepts"
 rule_kind_text rule.Guard = codes "Guard"
 
+abbrev pub record_kind_text : RecordKind → List ℕ
+record_kind_text record_kind.Magic = codes "Magic"
+record_kind_text record_kind.Cut = codes "Cut"
+record_kind_text record_kind.Code = codes "Code"
+record_kind_text record_kind.Length = codes "Length"
+record_kind_text record_kind.Suit = codes "Suit"
+record_kind_text record_kind.Limit = codes "Limit"
+
 -- ## Lines
 
 abbrev pub line_feed : List ℕ
@@ -127,6 +138,7 @@ finding_text path Valid = codes "valid" ++ line_feed
 finding_text path (BadRules fault) = fault_text path (rule_kind_text fault.kind) (fault.line ∷ [])
 finding_text path (Rules count) = codes "rules " ++ (decimal count ++ line_feed)
 finding_text path (BadSchedule fault) = schedule_fault_text path fault
+finding_text path (BadLog fault) = fault_text path (record_kind_text fault.kind) (fault.place ∷ [])
 
 -- the end line of a run
 abbrev pub end_text : How → List ℕ
@@ -138,14 +150,30 @@ end_text how.KernelFault = codes "kernel fault" ++ line_feed
 end_text how.LogLimit = codes "log limit" ++ line_feed
 end_text how.Memory = codes "no memory" ++ line_feed
 
--- the line that says an ending; what the program says of itself is any text
+-- the answer of an audit
+abbrev pub audit_text : Option ℕ → List ℕ
+audit_text None = codes "yes" ++ line_feed
+audit_text (Some entry) = codes "no " ++ (decimal entry ++ line_feed)
+
+abbrev pub missing_text : List ℕ → List ℕ
+missing_text path = codes "mv: file " ++ (path ++ line_feed)
+
+abbrev pub no_memory_text : List ℕ
+no_memory_text = codes "no memory" ++ line_feed
+
+-- the line that says an ending; of a log that is shown there is a line for each entry, and what the program says of itself is any
+-- text
 abbrev pub IsLine : Ending → List ℕ → Type 0
 IsLine BadWords text = text ≡ codes "mv: bad words" ++ line_feed
-IsLine NoMemory text = text ≡ codes "no memory" ++ line_feed
+IsLine NoMemory text = text ≡ no_memory_text
 IsLine Told text = Unit {0}
-IsLine (NoFile path) text = text ≡ codes "mv: file " ++ (path ++ line_feed)
+IsLine (NoFile path) text = text ≡ missing_text path
 IsLine (Found path finding) text = text ≡ finding_text path finding
 IsLine (Ran h) text = text ≡ end_text h
+IsLine (LogFailed path h) text = text ≡ missing_text path
+IsLine (LogNotMade h) text = text ≡ no_memory_text
+IsLine (Audited illegal) text = text ≡ audit_text illegal
+IsLine (Shown entries) text = text ≡ log_text entries.list
 
 -- ## Statuses
 
@@ -155,6 +183,11 @@ finding_status Valid = 0
 finding_status (BadRules fault) = 4
 finding_status (Rules count) = 0
 finding_status (BadSchedule fault) = 4
+finding_status (BadLog fault) = 4
+
+abbrev pub audit_status : Option ℕ → ℕ
+audit_status None = 0
+audit_status (Some entry) = 8
 
 abbrev pub status_of : Ending → ℕ
 status_of BadWords = 2
@@ -163,6 +196,10 @@ status_of Told = 0
 status_of (NoFile path) = 3
 status_of (Found path finding) = finding_status finding
 status_of (Ran h) = end_status h
+status_of (LogFailed path h) = 3
+status_of (LogNotMade h) = 9
+status_of (Audited illegal) = audit_status illegal
+status_of (Shown entries) = 0
 
 -- An ending shows by its status and its whole line; or by 7 where the sink failed, with a part of the line; or by 9 for
 -- want of memory, with nothing.

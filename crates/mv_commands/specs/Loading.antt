@@ -1,13 +1,17 @@
 -- For private clauses: what a guest's file is found to be, and what a command comes to before its line is printed.
-use Rattle.std.specs.Prelude.{◌≡◌, ◌⊎◌, ℕ, List, ◌∷◌, Option, Result, Ok, Err}
+use Rattle.std.specs.Prelude.{◌≡◌, ◌⊎◌, ℕ, List, Option, Some, None, Ok, Err}
 use Rattle.mv_outside.specs.Causes.{Rose}
 use Rattle.mv_outside.specs.Files.{FileMap}
 use Rattle.mv_core.specs.Sound.{IsNewRun}
-use Rattle.mv_rehearse.specs.declared.beats.Beat.{Beat}
 use Rattle.mv_transform.specs.Births.{behaviour, started}
-use Rattle.mv_commands.specs.Named.{FileIs, IsMissing, StandsAt, HasFault, IsInvalid, IsValidFile, HasRuleFault, HasRules}
+use Rattle.mv_inspect.specs.Told.{FileIs, IsMissing, StandsAt}
+use Rattle.mv_inspect.specs.declared.auditing.Inspected.{Inspected}
+use Rattle.mv_inspect.specs.declared.auditing.Inspected.TheVariants as inspected
+use Rattle.mv_inspect.specs.declared.listing.Listed.{Listed}
+use Rattle.mv_inspect.specs.declared.listing.Listed.TheVariants as listed
 use Rattle.mv_commands.specs.Schedules.{schedule_of}
 use Rattle.mv_commands.specs.declared.ending.Finding.{Finding}
+use Rattle.mv_commands.specs.declared.ending.Finding.TheVariants as finding
 use Rattle.mv_commands.specs.declared.ending.Ending.{Ending}
 use Rattle.mv_commands.specs.declared.ending.Ending.TheVariants as ending
 use Rattle.mv_commands.specs.declared.loading.Loaded.{Loaded}
@@ -66,3 +70,18 @@ abbrev pub ending_by : List ℕ → Judged → Ending
 ending_by path judged.NoFile = ending.NoFile path
 ending_by path judged.NoMemory = ending.NoMemory
 ending_by path (judged.Found finding) = ending.Found path finding
+
+-- the ending of an audit, and of a log that is to be shown
+abbrev pub audit_ending_by : List ℕ → List ℕ → Inspected → Ending
+audit_ending_by log old (inspected.NoFile path) = ending.NoFile path
+audit_ending_by log old inspected.NoMemory = ending.NoMemory
+audit_ending_by log old (inspected.BadLog fault) = ending.Found log (finding.BadLog fault)
+audit_ending_by log old (inspected.BadModule fault) = ending.Found old (finding.Refused fault)
+audit_ending_by log old inspected.Legal = ending.Audited None
+audit_ending_by log old (inspected.Illegal entry) = ending.Audited (Some entry)
+
+abbrev pub show_ending_by : List ℕ → Listed → Ending
+show_ending_by log listed.NoFile = ending.NoFile log
+show_ending_by log listed.NoMemory = ending.NoMemory
+show_ending_by log (listed.Refused fault) = ending.Found log (finding.BadLog fault)
+show_ending_by log (listed.Log args entries) = ending.Shown entries

@@ -1,5 +1,5 @@
 -- The files that a command names, and what they are found to be.
-use Rattle.std.specs.Prelude.{◌≡◌, ◌<◌, ◌⊎◌, ℕ, zero, suc, List, [], ◌∷◌, length, Option, Some, None, slice_get, Result, Ok, Err}
+use Rattle.std.specs.Prelude.{◌≡◌, ◌⊎◌, ℕ, zero, suc, List, [], ◌∷◌, length, Option, Ok, Err}
 use Rattle.mv_syntax.specs.declared.fault.ReadFault.{ReadFault}
 use Rattle.mv_syntax.specs.declared.fault.ValidFault.{ValidFault}
 use Rattle.mv_syntax.specs.declared.fault.BornFault.TheVariants as born
@@ -12,6 +12,9 @@ use Rattle.mv_rules.specs.declared.rule.Rule.{Rule}
 use Rattle.mv_rules.specs.RulesText.{rules_in}
 use Rattle.mv_rulecheck.specs.Atoms.{AreKept, IsFirstUnkept}
 use Rattle.mv_outside.specs.Files.{FileMap}
+use Rattle.mv_record.specs.File.{log_of}
+use Rattle.mv_inspect.specs.Audits.{AuditGoes, HasSomeLog, NotStarted, audit_files}
+use Rattle.mv_inspect.specs.Told.{StopsAmong}
 use Rattle.mv_guest.specs.Standing.{Standing}
 use Rattle.mv_transform.specs.Births.{started}
 use Rattle.mv_rehearse.specs.declared.beats.Beat.{Beat}
@@ -19,7 +22,7 @@ use Rattle.mv_words.specs.declared.command.Command.{Command}
 use Rattle.mv_words.specs.declared.command.Command.TheVariants as ask
 use Rattle.mv_commands.specs.Schedules.{schedule_of}
 use Rattle.mv_commands.specs.declared.ending.Finding.{Finding}
-use Rattle.mv_commands.specs.declared.ending.Finding.TheVariants.{Refused, Valid, BadRules, Rules, BadSchedule}
+use Rattle.mv_commands.specs.declared.ending.Finding.TheVariants.{Refused, Valid, BadRules, Rules, BadSchedule, BadLog}
 
 -- ## What a text is
 
@@ -73,56 +76,59 @@ IsNoSchedule text finding = ⊥
 abbrev pub IsSchedule : List ℕ → Type 0
 IsSchedule text = (beats : List Beat) × (schedule_of text ≡ Ok beats)
 
+-- it is the file of no log
+abbrev pub IsNoLog : List ℕ → Finding → Type 0
+IsNoLog text (BadLog fault) = log_of text ≡ Err fault
+IsNoLog text finding = ⊥
+
+-- no guest with the arguments of the log in the file of this path starts of it
+abbrev pub IsRefusedBy : Option FileMap → List ℕ → List ℕ → Finding → Type 0
+IsRefusedBy told log text (Refused fault) = NotStarted told log text fault
+IsRefusedBy told log text finding = ⊥
+
 -- ## The files of a command, in the order in which they are read and judged
 
 abbrev pub files_of : Command → List (List ℕ)
 files_of (ask.Run old args) = old ∷ []
-files_of (ask.Rehearse old schedule args ring) = old ∷ schedule ∷ []
-files_of (ask.Serve old args ring) = old ∷ []
+files_of (ask.Rehearse old schedule args ring log) = old ∷ schedule ∷ []
+files_of (ask.Serve old args ring log) = old ∷ []
 files_of (ask.Check path) = path ∷ []
 files_of (ask.Rules forward) = forward ∷ []
+files_of (ask.Audit log old updates) = audit_files log old updates
+files_of (ask.Show log) = log ∷ []
 files_of ask.Help = []
 files_of ask.Version = []
 
 -- the command ends by what its file with this number is found to be
-abbrev pub FoundAt : Command → ℕ → List ℕ → Finding → Type 0
-FoundAt (ask.Run old args) n text finding = IsRefused (old ∷ args) text finding
-FoundAt (ask.Rehearse old schedule args ring) zero text finding = IsRefused (old ∷ args) text finding
-FoundAt (ask.Rehearse old schedule args ring) (suc n) text finding = IsNoSchedule text finding
-FoundAt (ask.Serve old args ring) n text finding = IsRefused (old ∷ args) text finding
-FoundAt (ask.Check path) n text finding = SaysOfModule text finding
-FoundAt (ask.Rules forward) n text finding = SaysOfRules text finding
-FoundAt ask.Help n text finding = ⊥
-FoundAt ask.Version n text finding = ⊥
+abbrev pub FoundAt : Command → Option FileMap → ℕ → List ℕ → Finding → Type 0
+FoundAt (ask.Run old args) told n text finding = IsRefused (old ∷ args) text finding
+FoundAt (ask.Rehearse old schedule args ring log) told zero text finding = IsRefused (old ∷ args) text finding
+FoundAt (ask.Rehearse old schedule args ring log) told (suc n) text finding = IsNoSchedule text finding
+FoundAt (ask.Serve old args ring log) told n text finding = IsRefused (old ∷ args) text finding
+FoundAt (ask.Check path) told n text finding = SaysOfModule text finding
+FoundAt (ask.Rules forward) told n text finding = SaysOfRules text finding
+FoundAt (ask.Audit log old updates) told zero text finding = IsNoLog text finding
+FoundAt (ask.Audit log old updates) told (suc zero) text finding = IsRefusedBy told log text finding
+FoundAt (ask.Audit log old updates) told (suc (suc n)) text finding = ⊥
+FoundAt (ask.Show log) told n text finding = IsNoLog text finding
+FoundAt ask.Help told n text finding = ⊥
+FoundAt ask.Version told n text finding = ⊥
 
 -- the command goes on past its file with this number
-abbrev pub GoesOn : Command → ℕ → List ℕ → Type 0
-GoesOn (ask.Run old args) n text = Starts (old ∷ args) text
-GoesOn (ask.Rehearse old schedule args ring) zero text = Starts (old ∷ args) text
-GoesOn (ask.Rehearse old schedule args ring) (suc n) text = IsSchedule text
-GoesOn (ask.Serve old args ring) n text = Starts (old ∷ args) text
-GoesOn (ask.Check path) n text = ⊥
-GoesOn (ask.Rules forward) n text = ⊥
-GoesOn ask.Help n text = ⊥
-GoesOn ask.Version n text = ⊥
+abbrev pub GoesOn : Command → Option FileMap → ℕ → List ℕ → Type 0
+GoesOn (ask.Run old args) told n text = Starts (old ∷ args) text
+GoesOn (ask.Rehearse old schedule args ring log) told zero text = Starts (old ∷ args) text
+GoesOn (ask.Rehearse old schedule args ring log) told (suc n) text = IsSchedule text
+GoesOn (ask.Serve old args ring log) told n text = Starts (old ∷ args) text
+GoesOn (ask.Check path) told n text = ⊥
+GoesOn (ask.Rules forward) told n text = ⊥
+GoesOn (ask.Audit log old updates) told n text = AuditGoes told log n text
+GoesOn (ask.Show log) told n text = HasSomeLog text
+GoesOn ask.Help told n text = ⊥
+GoesOn ask.Version told n text = ⊥
 
--- ## As far as files are told
-
--- no file of this path is told
-abbrev pub IsMissing : Option FileMap → List ℕ → Type 0
-IsMissing told path = (files : FileMap) → told ≡ Some files → files path ≡ None
-
--- the file of this path has this text
-abbrev pub StandsAt : Option FileMap → List ℕ → List ℕ → Type 0
-StandsAt told path text = (files : FileMap) → told ≡ Some files → files path ≡ Some text
-
--- P holds of the text of the file of this path
-abbrev pub FileIs : Option FileMap → List ℕ → (List ℕ → Type 0) → Type 0
-FileIs told path P = (files : FileMap) → told ≡ Some files → (text : List ℕ) × (files path ≡ Some text) × P text
+-- ## Where a command ends
 
 -- the command goes on past the files before this one, and P holds of its number
-pub record StopsAt (command : Command) (told : Option FileMap) (path : List ℕ) (P : ℕ → Type 0) : Type 0 where
-  pub number : ℕ
-  pub named : slice_get (files_of command) number ≡ Some path
-  pub earlier : (n : ℕ) (other : List ℕ) → n < number → slice_get (files_of command) n ≡ Some other → FileIs told other (GoesOn command n)
-  pub stops : P number
+abbrev pub StopsAt : Command → Option FileMap → List ℕ → (ℕ → Type 0) → Type 0
+StopsAt command told path P = StopsAmong (files_of command) (GoesOn command told) told path P

@@ -3,7 +3,7 @@ ghost use Rattle.std.specs.Prelude.{◌≡◌, List, ℕ, map, string_bytes};
 ghost use Rattle.mv_words.specs.Commands.{Says};
 ghost use Rattle.mv_outside.specs.Told.{told_more};
 ghost use Rattle.mv_history.specs.World.{outside};
-ghost use Rattle.mv_commands.specs.Causes.{HasCause, HasStatus, IsAny, IsExact, IsFeasible, IsLegal, IsOnOneThread, seen_of};
+ghost use Rattle.mv_commands.specs.Causes.{HasCause, HasStatus, IsAny, IsExact, IsFeasible, IsLegal, IsOnOneThread, KeepsFiles, seen_of};
 ghost use Rattle.mv_commands.specs.Lines.{Shows};
 
 use crate::ending::Ending;
@@ -44,7 +44,7 @@ pub fn program<
 ) -> Outcome<K, C, F>
     ensures done { K.done result.kernel ≡ told_more (K.done kernel) (outside result.log.entries.list) }
     ensures legal { IsLegal result.log }
-    ensures files { F.content result.files ≡ F.content files }
+    ensures files { KeepsFiles (map string_bytes words.now) (F.content files) (F.content result.files) }
     ensures status { HasStatus IsAny (map string_bytes words.now)
         (seen_of K.done K.faults C.coming C.said C.faults F.content F.faults kernel console files)
         (seen_of K.done K.faults C.coming C.said C.faults F.content F.faults result.kernel result.console result.files)
@@ -69,7 +69,7 @@ pub fn carry_out<K: Kernel, C: Console, F: Files, S: Sink>(
 ) -> Outcome<K, C, F>
     ensures done { K.done result.kernel ≡ told_more (K.done kernel) (outside result.log.entries.list) }
     ensures legal { IsLegal result.log }
-    ensures files { F.content result.files ≡ F.content files }
+    ensures files { KeepsFiles (map string_bytes words.now) (F.content files) (F.content result.files) }
     ensures status { HasStatus IsOnOneThread (map string_bytes words.now)
         (seen_of K.done K.faults C.coming C.said C.faults F.content F.faults kernel console files)
         (seen_of K.done K.faults C.coming C.said C.faults F.content F.faults result.kernel result.console result.files)

@@ -1,7 +1,8 @@
 //! What came of a command line.
 
 use mv_calls::Bytes;
-use mv_history::How;
+use mv_history::{Entries, How};
+use mv_record::RecordFault;
 use mv_rules::RuleFault;
 use mv_syntax::BornFault;
 
@@ -27,6 +28,8 @@ pub enum Finding {
     Rules(usize),
     /// It isn't a schedule.
     BadSchedule(ScheduleFault),
+    /// It isn't the file of a log.
+    BadLog(RecordFault),
 }
 
 /// What came of a command line. One row of the table of statuses each (docs/GUIDE.md, "Statuses").
@@ -42,6 +45,14 @@ pub enum Ending {
     NoFile { path: Bytes },
     /// The file of this path was judged.
     Found { path: Bytes, finding: Finding },
-    /// The guest ran, and its log ended so.
+    /// The guest ran, and its log ended so. Where the words name a file for the log, it is there.
     Ran(How),
+    /// The guest ran, its log ended so, and the log couldn't be written to the file of this path.
+    LogFailed { path: Bytes, how: How },
+    /// The guest ran, its log ended so, and there was no memory for the log's file.
+    LogNotMade(How),
+    /// The log is legal; or its first entry that may not come has this number, from 0.
+    Audited { illegal: Option<u64> },
+    /// The entries of a log, to be shown.
+    Shown { entries: Entries },
 }

@@ -1,10 +1,11 @@
 //! The lines of faults of files: the kind by its name, and where it stands (docs/FORMATS.md, "Fault lines").
 ghost use Rattle.std.specs.Prelude.{◌≡◌, [], ◌++◌, ◌∷◌, IfOk, OnOk, decimal};
-ghost use Rattle.mv_commands.specs.Lines.{trap_text, read_kind_text, valid_kind_text, rule_kind_text, fault_text, numbers_text, refusal_text, start_fault_text, schedule_fault_text, finding_text};
+ghost use Rattle.mv_commands.specs.Lines.{trap_text, read_kind_text, valid_kind_text, rule_kind_text, record_kind_text, fault_text, numbers_text, refusal_text, start_fault_text, schedule_fault_text, finding_text};
 
 use crate::ending::{Finding, ScheduleFault};
 use itoa::Buffer;
 use mv_calls::{Bytes, OutOfMemory, Trap};
+use mv_record::RecordKind;
 use mv_rules::RuleKind;
 use mv_syntax::{BornFault, ReadKind, StartFault, ValidKind};
 use std::alloc::Global;
@@ -90,6 +91,20 @@ fn rule_kind_name(kind: RuleKind) -> &'static str
         RuleKind::Reads => "Reads",
         RuleKind::Accepts => "Accepts",
         RuleKind::Guard => "Guard",
+    }
+}
+
+/// The name of a kind of fault of a log file.
+fn record_kind_name(kind: RecordKind) -> &'static str
+    ensures { result.now ≡ record_kind_text kind }
+{
+    match kind {
+        RecordKind::Magic => "Magic",
+        RecordKind::Cut => "Cut",
+        RecordKind::Code => "Code",
+        RecordKind::Length => "Length",
+        RecordKind::Suit => "Suit",
+        RecordKind::Limit => "Limit",
     }
 }
 
@@ -211,5 +226,8 @@ pub fn finding_line(alloc: Global, path: &Bytes, finding: Finding) -> Result<Vec
             Ok(line)
         }
         Finding::BadSchedule(fault) => schedule_fault_line(alloc, path, fault),
+        Finding::BadLog(fault) => {
+            fault_line(alloc, path, record_kind_name(fault.kind), &[fault.place])
+        }
     }
 }

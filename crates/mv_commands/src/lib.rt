@@ -5,6 +5,7 @@ mod carrying;
 mod ending;
 mod fault_lines;
 mod judging;
+mod keeping;
 mod loading;
 mod running;
 mod showing;

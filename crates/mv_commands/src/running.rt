@@ -3,18 +3,18 @@ ghost use Rattle.std.specs.Prelude.{◌≡◌, ◌≤◌, [], IsTrue, false};
 ghost use Rattle.mv_core.specs.Found.{AreFilesKept};
 ghost use Rattle.mv_core.specs.Sound.{IsNewRun};
 ghost use Rattle.mv_rehearse.specs.Runs.{DidCalls, HasEnded, IsLegalRun, OrdersAnswered, began_with};
-ghost use Rattle.mv_history.specs.Ends.{EndsBy};
-ghost use Rattle.mv_history.specs.declared.log.How.{How as hows};
 ghost use Rattle.mv_words.specs.declared.command.Command.TheVariants as ask;
 ghost use Rattle.mv_commands.specs.Causes.{CauseOf, IsFeasible, IsOnOneThread, IsRehearsal, seen_of};
-ghost use Rattle.mv_commands.specs.Loading.{ending_by};
+ghost use Rattle.mv_commands.specs.Loading.{audit_ending_by, ending_by, show_ending_by};
 
 use crate::ending::{Ending, Finding};
 use crate::judging::{Judged, module_at, rules_at};
+use crate::keeping::{how_of, keep_log};
 use crate::loading::{Loaded, Planned, guest_at, schedule_at};
 use mv_calls::{Bytes, Texts};
-use mv_history::{Entry, How, Log, Mark};
+use mv_history::Log;
 use mv_host::serve;
+use mv_inspect::{Inspected, Listed, audit_at, log_at};
 use mv_outside::{Console, Files, Gate, Kernel};
 use mv_rehearse::{Beat, Outcome, alone, rehearse};
 use mv_transform::Guest;
@@ -52,16 +52,6 @@ pub fn not_run<K: Kernel, C: Console, F: Files>(
         console,
         files,
         log: Log::empty(alloc),
-    }
-}
-
-/// How a log has ended.
-fn how_of(log: &Log) -> How
-    ensures { (h : hows) → EndsBy log.now.entries.list h → result ≡ h }
-{
-    match log.entries.slice().last() {
-        Some(Entry::Mark(Mark::End { how })) => *how,
-        _ => How::Memory,
     }
 }
 
@@ -121,21 +111,22 @@ fn by_beats<V: Version, K: Kernel, C: Console, F: Files>(
     rehearse::<V, K, C, F>(alloc, guest, log, kernel, console, files, capacity, beats)
 }
 
-/// `rehearse OLD SCHEDULE [ARG ..] [--ring N]`: runs a guest by the beats of a schedule, and asks the operator for orders.
+/// `rehearse OLD SCHEDULE [ARG ..] [--ring N] [--log PATH]`: runs a guest by the beats of a schedule, and asks the operator for orders.
 fn rehearse_asked<K: Kernel, C: Console, F: Files>(
     alloc: Global,
     old: Bytes,
     schedule: Bytes,
     args: &Texts,
     ring: u32,
+    log: Option<Bytes>,
     kernel: K,
     console: C,
     mut files: F,
 ) -> Came<K, C, F>
     requires ring { (4 ≤ ring) × (ring ≤ 4096) }
-    ensures { CauseOf (ask.Rehearse old schedule args.now ring) (seen_of K.done K.faults C.coming C.said C.faults F.content F.faults kernel console files) (seen_of K.done K.faults C.coming C.said C.faults F.content F.faults result.kernel result.console result.files) result.log result.ending }
+    ensures { CauseOf (ask.Rehearse old schedule args.now ring log) (seen_of K.done K.faults C.coming C.said C.faults F.content F.faults kernel console files) (seen_of K.done K.faults C.coming C.said C.faults F.content F.faults result.kernel result.console result.files) result.log result.ending }
 {
-    let (guest, log) = match guest_at(alloc, &old, args, &mut files) {
+    let (guest, first) = match guest_at(alloc, &old, args, &mut files) {
         Loaded::NoFile => {
             return not_run(alloc, Ending::NoFile { path: old }, kernel, console, files);
         }
@@ -145,7 +136,7 @@ fn rehearse_asked<K: Kernel, C: Console, F: Files>(
             let ending = Ending::Found { path: old, finding };
             return not_run(alloc, ending, kernel, console, files);
         }
-        Loaded::Starts { guest, log } => (guest, log),
+        Loaded::Starts { guest, log: first } => (guest, first),
     };
     match schedule_at(alloc, &schedule, &mut files) {
         Planned::NoFile => {
@@ -171,26 +162,19 @@ fn rehearse_asked<K: Kernel, C: Console, F: Files>(
             let outcome = by_beats::<Guest, K, C, F>(
                 alloc,
                 guest,
-                log,
+                first,
                 kernel,
                 console,
                 files,
                 capacity,
                 beats.as_slice(),
             );
-            let how = how_of(&outcome.log);
-            Came {
-                ending: Ending::Ran(how),
-                kernel: outcome.kernel,
-                console: outcome.console,
-                files: outcome.files,
-                log: outcome.log,
-            }
+            keep_log(alloc, log, outcome)
         }
     }
 }
 
-/// `serve OLD [ARG ..] [--ring N]`: runs a guest on two threads to its end, and asks the operator for orders.
+/// `serve OLD [ARG ..] [--ring N] [--log PATH]`: runs a guest on two threads to its end, and asks the operator for orders.
 pub fn serve_asked<
     R: Threads + Wait + Sync,
     K: Kernel + Send,
@@ -203,13 +187,14 @@ pub fn serve_asked<
     old: Bytes,
     args: &Texts,
     ring: u32,
+    log: Option<Bytes>,
     kernel: K,
     console: C,
     mut files: F,
     gate: &G,
 ) -> Came<K, C, F>
     requires ring { (4 ≤ ring) × (ring ≤ 4096) }
-    ensures { CauseOf (ask.Serve old args.now ring) (seen_of K.done K.faults C.coming C.said C.faults F.content F.faults kernel console files) (seen_of K.done K.faults C.coming C.said C.faults F.content F.faults result.kernel result.console result.files) result.log result.ending }
+    ensures { CauseOf (ask.Serve old args.now ring log) (seen_of K.done K.faults C.coming C.said C.faults F.content F.faults kernel console files) (seen_of K.done K.faults C.coming C.said C.faults F.content F.faults result.kernel result.console result.files) result.log result.ending }
 {
     match guest_at(alloc, &old, args, &mut files) {
         Loaded::NoFile => not_run(alloc, Ending::NoFile { path: old }, kernel, console, files),
@@ -219,19 +204,12 @@ pub fn serve_asked<
             let ending = Ending::Found { path: old, finding };
             not_run(alloc, ending, kernel, console, files)
         }
-        Loaded::Starts { guest, log } => {
+        Loaded::Starts { guest, log: first } => {
             let capacity = ring as usize;
             let outcome = serve::<R, Guest, K, C, F, G>(
-                rt, alloc, guest, log, kernel, console, files, capacity, gate,
+                rt, alloc, guest, first, kernel, console, files, capacity, gate,
             );
-            let how = how_of(&outcome.log);
-            Came {
-                ending: Ending::Ran(how),
-                kernel: outcome.kernel,
-                console: outcome.console,
-                files: outcome.files,
-                log: outcome.log,
-            }
+            keep_log(alloc, log, outcome)
         }
     }
 }
@@ -244,6 +222,43 @@ fn ending_of(path: Bytes, judged: Judged) -> Ending
         Judged::NoFile => Ending::NoFile { path },
         Judged::NoMemory => Ending::NoMemory,
         Judged::Found(finding) => Ending::Found { path, finding },
+    }
+}
+
+/// What an audit comes to.
+fn audit_ending(log: Bytes, old: Bytes, inspected: Inspected) -> Ending
+    ensures { result ≡ audit_ending_by log old inspected }
+{
+    match inspected {
+        Inspected::NoFile { path } => Ending::NoFile { path },
+        Inspected::NoMemory => Ending::NoMemory,
+        Inspected::BadLog(fault) => Ending::Found {
+            path: log,
+            finding: Finding::BadLog(fault),
+        },
+        Inspected::BadModule(fault) => Ending::Found {
+            path: old,
+            finding: Finding::Refused(fault),
+        },
+        Inspected::Legal => Ending::Audited { illegal: None },
+        Inspected::Illegal { entry } => Ending::Audited {
+            illegal: Some(entry),
+        },
+    }
+}
+
+/// What a log that is to be shown comes to.
+fn show_ending(log: Bytes, listed: Listed) -> Ending
+    ensures { result ≡ show_ending_by log listed }
+{
+    match listed {
+        Listed::NoFile => Ending::NoFile { path: log },
+        Listed::NoMemory => Ending::NoMemory,
+        Listed::Refused(fault) => Ending::Found {
+            path: log,
+            finding: Finding::BadLog(fault),
+        },
+        Listed::Log { entries, .. } => Ending::Shown { entries },
     }
 }
 
@@ -274,7 +289,10 @@ pub fn did<K: Kernel, C: Console, F: Files>(
             schedule,
             args,
             ring,
-        } => rehearse_asked(alloc, old, schedule, &args, ring, kernel, console, files),
+            log,
+        } => rehearse_asked(
+            alloc, old, schedule, &args, ring, log, kernel, console, files,
+        ),
         Command::Serve { .. } => unreachable!(),
         Command::Check { path } => {
             let judged = module_at(alloc, &path, &mut files);
@@ -283,6 +301,20 @@ pub fn did<K: Kernel, C: Console, F: Files>(
         Command::Rules { forward } => {
             let judged = rules_at(alloc, &forward, &mut files);
             not_run(alloc, ending_of(forward, judged), kernel, console, files)
+        }
+        Command::Audit { log, old, updates } => {
+            let inspected = audit_at(alloc, &log, &old, &updates, &mut files);
+            not_run(
+                alloc,
+                audit_ending(log, old, inspected),
+                kernel,
+                console,
+                files,
+            )
+        }
+        Command::Show { log } => {
+            let listed = log_at(alloc, &log, &mut files);
+            not_run(alloc, show_ending(log, listed), kernel, console, files)
         }
         Command::Help | Command::Version => { not_run(alloc, Ending::Told, kernel, console, files) }
     }
@@ -308,9 +340,14 @@ pub fn did_any<
     ensures { CauseOf command (seen_of K.done K.faults C.coming C.said C.faults F.content F.faults kernel console files) (seen_of K.done K.faults C.coming C.said C.faults F.content F.faults result.kernel result.console result.files) result.log result.ending }
 {
     match command {
-        Command::Serve { old, args, ring } => {
-            serve_asked(rt, alloc, old, &args, ring, kernel, console, files, gate)
-        }
+        Command::Serve {
+            old,
+            args,
+            ring,
+            log,
+        } => serve_asked(
+            rt, alloc, old, &args, ring, log, kernel, console, files, gate,
+        ),
         other => did(alloc, other, kernel, console, files),
     }
 }

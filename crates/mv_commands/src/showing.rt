@@ -1,14 +1,14 @@
 //! The one line that a command prints, and its status.
 ghost use Rattle.std.specs.Prelude.{◌≡◌, IfOk, List, ℕ};
 ghost use Rattle.mv_rehearse.specs.Runs.{end_status};
-ghost use Rattle.mv_commands.specs.declared.ending.Ending.TheVariants as ending_is;
-ghost use Rattle.mv_commands.specs.Lines.{IsLine, Shows, end_text, finding_status, status_of};
+ghost use Rattle.mv_commands.specs.Lines.{IsLine, Shows, audit_text, end_text, finding_status, missing_text, status_of};
 
 use crate::ending::{Ending, Finding};
 use crate::fault_lines::{add_number, finding_line, trap_name};
 use mv_calls::{Bytes, Or, OutOfMemory};
 use mv_history::How;
 use mv_outside::Sink;
+use mv_show::log_lines;
 use std::alloc::Global;
 
 /// The status where a call of the sink failed.
@@ -19,14 +19,17 @@ const NO_MEMORY: u8 = 9;
 
 /// How the program is called.
 const HELP: &[u8] = b"mv run OLD [ARG ..]\n\
-mv rehearse OLD SCHEDULE [ARG ..] [--ring N]\n\
-mv serve OLD [ARG ..] [--ring N]\n\
+mv rehearse OLD SCHEDULE [ARG ..] [--ring N] [--log PATH]\n\
+mv serve OLD [ARG ..] [--ring N] [--log PATH]\n\
 mv check MODULE\n\
-mv rules FWD\n";
+mv rules FWD\n\
+mv audit LOG OLD [M FWD REV ..]\n\
+mv show LOG\n\
+run, rehearse and serve: [--listen ADDRESS] [--console ADDRESS]\n";
 
 /// The line of a file that is missing.
 fn missing_line(alloc: Global, path: &Bytes) -> Result<Vec<u8>, OutOfMemory>
-    ensures { IfOk result (λ line. IsLine (ending_is.NoFile path.now) line.items) }
+    ensures { IfOk result (λ line. line.items ≡ missing_text path.now) }
 {
     let mut line = Vec::from_slice(alloc, b"mv: file ")?;
     line.extend_from_slice(path.slice())?;
@@ -59,6 +62,21 @@ fn end_line(alloc: Global, how: How) -> Result<Vec<u8>, OutOfMemory>
     }
 }
 
+/// The line of an audit's answer.
+fn audit_line(alloc: Global, illegal: Option<u64>) -> Result<Vec<u8>, OutOfMemory>
+    ensures { IfOk result (λ line. line.items ≡ audit_text illegal) }
+{
+    match illegal {
+        None => Ok(Vec::from_slice(alloc, b"yes\n")?),
+        Some(entry) => {
+            let mut line = Vec::from_slice(alloc, b"no ")?;
+            add_number(&mut line, entry)?;
+            line.push(b'\n')?;
+            Ok(line)
+        }
+    }
+}
+
 /// The line that says an ending.
 fn line(alloc: Global, ending: &Ending) -> Result<Vec<u8>, OutOfMemory>
     ensures { IfOk result (λ line. IsLine ending.now line.items) }
@@ -70,6 +88,10 @@ fn line(alloc: Global, ending: &Ending) -> Result<Vec<u8>, OutOfMemory>
         Ending::NoFile { path } => missing_line(alloc, path),
         Ending::Found { path, finding } => finding_line(alloc, path, *finding),
         Ending::Ran(how) => end_line(alloc, *how),
+        Ending::LogFailed { path, .. } => missing_line(alloc, path),
+        Ending::LogNotMade(_) => Ok(Vec::from_slice(alloc, b"no memory\n")?),
+        Ending::Audited { illegal } => audit_line(alloc, *illegal),
+        Ending::Shown { entries } => log_lines(alloc, entries.slice()),
     }
 }
 
@@ -78,7 +100,8 @@ fn found_status(finding: Finding) -> u8
     ensures { result ≡ finding_status finding }
 {
     match finding {
-        Finding::Refused(_) | Finding::BadRules(_) | Finding::BadSchedule(_) => 4,
+        Finding::Refused(_) | Finding::BadRules(_) | Finding::BadSchedule(_) | Finding::BadLog(_) =>
+            4,
         Finding::Valid | Finding::Rules(_) => 0,
     }
 }
@@ -108,6 +131,11 @@ fn status(ending: &Ending) -> u8
         Ending::NoFile { .. } => 3,
         Ending::Found { finding, .. } => found_status(*finding),
         Ending::Ran(how) => ran_status(*how),
+        Ending::LogFailed { .. } => 3,
+        Ending::LogNotMade(_) => NO_MEMORY,
+        Ending::Audited { illegal: None } => 0,
+        Ending::Audited { illegal: Some(_) } => 8,
+        Ending::Shown { .. } => 0,
     }
 }
 

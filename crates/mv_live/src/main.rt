@@ -9,10 +9,10 @@ mod tests;
 mod writer_sink;
 
 use disk_files::DiskFiles;
-use mv_calls::{Bytes, OutOfMemory};
 use mv_commands::program;
 use mv_kernnet::{NetConsole, NetKernel};
 use mv_outside::FreeGate;
+use mv_words::places;
 use std::alloc::Global;
 use std::process::ExitCode;
 use std::rt::Env;
@@ -22,33 +22,12 @@ use writer_sink::WriterSink;
 /// The status for want of memory.
 const NO_MEMORY: u8 = 9;
 
-/// Where a guest's listener is.
-const LISTEN: &[u8] = b"127.0.0.1:7070";
-
-/// Where the operator's console is.
-const CONSOLE: &[u8] = b"127.0.0.1:7071";
-
-/// The two addresses.
-#[derive(Drop)]
-struct Addresses {
-    listen: Bytes,
-    console: Bytes,
-}
-
-/// Where listener and console are.
-fn places(alloc: Global) -> Result<Addresses, OutOfMemory> {
-    Ok(Addresses {
-        listen: Bytes::from_slice(alloc, LISTEN)?,
-        console: Bytes::from_slice(alloc, CONSOLE)?,
-    })
-}
-
 fn main(rt: HostRuntime) -> ExitCode {
     let alloc = rt.alloc();
     let Ok(words) = words_of(&rt, alloc) else {
         return ExitCode::from(NO_MEMORY);
     };
-    let Ok(addresses) = places(alloc) else {
+    let Ok(addresses) = places(alloc, words.as_slice()) else {
         return ExitCode::from(NO_MEMORY);
     };
     let mut out = WriterSink::new(rt.stdout());

@@ -1,4 +1,4 @@
-use Rattle.std.proofs.Common.{◌≡◌, refl, rules}
+use Rattle.std.proofs.Common.{refl, rules}
 use Rattle.mv_commands.proofs.Comings.{refused_service}
 use Rattle.mv_commands.proofs.carrying.did_on_one.Goals as goal
 

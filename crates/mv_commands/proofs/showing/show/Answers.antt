@@ -1,4 +1,4 @@
-use Rattle.std.proofs.Common.{◌≡◌, refl, inr}
+use Rattle.std.proofs.Common.{refl, inr}
 use Rattle.mv_commands.proofs.Showings.{some_line}
 use Rattle.mv_commands.proofs.showing.show.Goals as goal
 
