@@ -565,6 +565,93 @@ fn updates_are_rehearsed(rt: HostRuntime) -> Result<(), Fail> {
     Ok(())
 }
 
+/// What is there after a rehearsal of `old`, whose update the operator orders: the status, what was printed, and the files.
+#[derive(Drop)]
+struct Left {
+    status: u8,
+    printed: Vec<u8>,
+    files: MemFiles,
+}
+
+/// Carries out the words over these files, with this order at the first look.
+fn carried(alloc: Global, said: &[&str], order: &str, files: MemFiles) -> Result<Left, Fail> {
+    let said = texts(alloc, said)?;
+    let kernel = kernel(alloc, &[], None)?;
+    let console = console(alloc, &[(0, order)])?;
+    let mut sink = VecSink::new(alloc, Vec::new(alloc));
+    let came = carry_out(alloc, said.as_slice(), kernel, console, files, &mut sink);
+    Ok(Left {
+        status: came.status,
+        printed: Vec::from_slice(alloc, sink.bytes())?,
+        files: came.files,
+    })
+}
+
+/// The log of an update that was discarded, as it is shown.
+const DISCARDED: &[u8] = b"\
+{\"kind\":\"order\",\"number\":0,\"reply\":{\"ok\":\"update\",\"update\":1},\"text\":\"update other none none\"}\n\
+{\"kind\":\"mark\",\"mark\":\"fork\",\"number\":1,\"update\":1}\n\
+{\"kind\":\"point\",\"number\":2}\n\
+{\"call\":{\"bytes\":\"hi\\n\",\"call\":\"write\",\"fd\":1},\"kind\":\"call\",\"number\":3,\"reply\":{\"count\":3,\"reply\":\"count\"}}\n\
+{\"cause\":{\"cause\":\"mismatch\",\"got\":{\"call\":{\"bytes\":\"ho\\n\",\"call\":\"write\",\"fd\":1},\"event\":\"calls\"},\"item\":0,\"want\":{\"bytes\":\"hi\\n\",\"call\":\"write\",\"fd\":1}},\"kind\":\"mark\",\"mark\":\"discard\",\"number\":4}\n\
+{\"kind\":\"point\",\"number\":5}\n\
+{\"code\":0,\"how\":\"ended\",\"kind\":\"mark\",\"mark\":\"end\",\"number\":6}\n";
+
+#[test]
+fn a_log_is_kept_audited_and_shown(rt: HostRuntime) -> Result<(), Fail> {
+    let alloc = rt.alloc();
+    let mut other = Vec::from_slice(alloc, VERSION)?;
+    let last = other.len() - 2;
+    other[last] = b'o';
+    let named = [
+        ("old", VERSION.as_slice()),
+        ("new", VERSION.as_slice()),
+        ("other", other.as_slice()),
+        ("blocks", BLOCKS),
+    ];
+    let order = "update other none none";
+    let said = ["rehearse", "old", "blocks", "--log", "kept"];
+    let mut left = carried(alloc, &said, order, files(&rt, alloc, &named, None)?)?;
+    assert!(rt; left.status == 0 && left.printed.as_slice() == b"ended 0\n".as_slice());
+    let rows: [(&[&str], u8, &[u8]); 6] = [
+        (
+            &["audit", "kept", "old", "other", "none", "none"],
+            0,
+            b"yes\n",
+        ),
+        // An update that makes equal calls shows no mismatch.
+        (
+            &["audit", "kept", "old", "new", "none", "none"],
+            8,
+            b"no 4\n",
+        ),
+        (&["audit", "old", "old"], 4, b"mv: old: Magic 0\n"),
+        (&["audit", "nothing", "old"], 3, b"mv: file nothing\n"),
+        (&["show", "kept"], 0, DISCARDED),
+        (&["show", "old"], 4, b"mv: old: Magic 0\n"),
+    ];
+    for (said, status, printed) in rows {
+        let row = carried(alloc, said, order, left.files)?;
+        assert!(rt; row.status == status && row.printed.as_slice() == printed);
+        left = row;
+    }
+    // A log that can't be written is told in place of the run's end.
+    let mut all = Vec::new(alloc);
+    all.push(FileAt {
+        path: Bytes::from_slice(alloc, b"old")?,
+        bytes: Bytes::from_slice(alloc, VERSION)?,
+    })?;
+    all.push(FileAt {
+        path: Bytes::from_slice(alloc, b"blocks")?,
+        bytes: Bytes::from_slice(alloc, BLOCKS)?,
+    })?;
+    assert!(rt; paths_differ(all.as_slice()));
+    let failing = MemFiles::new(all, Vec::new(alloc), list(alloc, Some(0))?);
+    let row = carried(alloc, &said, order, failing)?;
+    assert!(rt; row.status == 3 && row.printed.as_slice() == b"mv: file kept\n".as_slice());
+    Ok(())
+}
+
 /// What the program showed on these words, with two threads where it takes them.
 fn of_program<R: Threads + Wait + Sync>(
     rt: &R,
