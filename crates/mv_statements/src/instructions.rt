@@ -1,5 +1,5 @@
 //! The immediates of instructions.
-ghost use Rattle.std.specs.Prelude.{◌≡◌, IfOk};
+ghost use Rattle.std.specs.Prelude.{◌≡◌, [], IfOk};
 ghost use Rattle.mv_syntax.specs.declared.instr.Instr.TheVariants as instrs;
 ghost use Rattle.mv_statements.specs.Statements.{immediates};
 
@@ -10,6 +10,7 @@ use mv_syntax::{Indices, Instr};
 use std::alloc::Global;
 
 /// The labels of `br_table`, and the last.
+#[tactic(auto, unfolding(crate::specs::Statements::immediates))]
 fn labels(alloc: Global, words: &mut Words<'_>) -> Result<Instr, OutOfMemory>
     ensures { IfOk result (λ made. (made, words.new) ≡ (immediates (instrs.BrTable [] 0)).reads words.old) }
 {

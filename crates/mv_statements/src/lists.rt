@@ -24,11 +24,7 @@ pub fn val_types(
 }
 
 /// So many indices.
-pub fn indices(
-    alloc: Global,
-    count: usize,
-    words: &mut Words<'_>,
-) -> Result<Indices, OutOfMemory>
+pub fn indices(alloc: Global, count: usize, words: &mut Words<'_>) -> Result<Indices, OutOfMemory>
     ensures { IfOk result (λ list. (list, words.new) ≡ (many index count).reads words.old) }
 {
     let mut list = Vec::new(alloc);

@@ -118,23 +118,71 @@ fn narrow_access_named(word: &[u8]) -> Option<Instr>
     ensures { result ≡ lookup word.now (access_names ValType.I32) }
 {
     if word == b"const".as_slice() {
-        Some(Instr::Const { vtype: ValType::I32, value: 0 })
+        Some(Instr::Const {
+            vtype: ValType::I32,
+            value: 0,
+        })
     } else if word == b"load".as_slice() {
-        Some(Instr::Load { result: ValType::I32, bytes: 4, signed: false, align: 0, offset: 0 })
+        Some(Instr::Load {
+            result: ValType::I32,
+            bytes: 4,
+            signed: false,
+            align: 0,
+            offset: 0,
+        })
     } else if word == b"load8_s".as_slice() {
-        Some(Instr::Load { result: ValType::I32, bytes: 1, signed: true, align: 0, offset: 0 })
+        Some(Instr::Load {
+            result: ValType::I32,
+            bytes: 1,
+            signed: true,
+            align: 0,
+            offset: 0,
+        })
     } else if word == b"load8_u".as_slice() {
-        Some(Instr::Load { result: ValType::I32, bytes: 1, signed: false, align: 0, offset: 0 })
+        Some(Instr::Load {
+            result: ValType::I32,
+            bytes: 1,
+            signed: false,
+            align: 0,
+            offset: 0,
+        })
     } else if word == b"load16_s".as_slice() {
-        Some(Instr::Load { result: ValType::I32, bytes: 2, signed: true, align: 0, offset: 0 })
+        Some(Instr::Load {
+            result: ValType::I32,
+            bytes: 2,
+            signed: true,
+            align: 0,
+            offset: 0,
+        })
     } else if word == b"load16_u".as_slice() {
-        Some(Instr::Load { result: ValType::I32, bytes: 2, signed: false, align: 0, offset: 0 })
+        Some(Instr::Load {
+            result: ValType::I32,
+            bytes: 2,
+            signed: false,
+            align: 0,
+            offset: 0,
+        })
     } else if word == b"store".as_slice() {
-        Some(Instr::Store { value: ValType::I32, bytes: 4, align: 0, offset: 0 })
+        Some(Instr::Store {
+            value: ValType::I32,
+            bytes: 4,
+            align: 0,
+            offset: 0,
+        })
     } else if word == b"store8".as_slice() {
-        Some(Instr::Store { value: ValType::I32, bytes: 1, align: 0, offset: 0 })
+        Some(Instr::Store {
+            value: ValType::I32,
+            bytes: 1,
+            align: 0,
+            offset: 0,
+        })
     } else if word == b"store16".as_slice() {
-        Some(Instr::Store { value: ValType::I32, bytes: 2, align: 0, offset: 0 })
+        Some(Instr::Store {
+            value: ValType::I32,
+            bytes: 2,
+            align: 0,
+            offset: 0,
+        })
     } else {
         None
     }
@@ -145,29 +193,94 @@ fn wide_access_named(word: &[u8]) -> Option<Instr>
     ensures { result ≡ lookup word.now (access_names ValType.I64) }
 {
     if word == b"const".as_slice() {
-        Some(Instr::Const { vtype: ValType::I64, value: 0 })
+        Some(Instr::Const {
+            vtype: ValType::I64,
+            value: 0,
+        })
     } else if word == b"load".as_slice() {
-        Some(Instr::Load { result: ValType::I64, bytes: 8, signed: false, align: 0, offset: 0 })
+        Some(Instr::Load {
+            result: ValType::I64,
+            bytes: 8,
+            signed: false,
+            align: 0,
+            offset: 0,
+        })
     } else if word == b"load8_s".as_slice() {
-        Some(Instr::Load { result: ValType::I64, bytes: 1, signed: true, align: 0, offset: 0 })
+        Some(Instr::Load {
+            result: ValType::I64,
+            bytes: 1,
+            signed: true,
+            align: 0,
+            offset: 0,
+        })
     } else if word == b"load8_u".as_slice() {
-        Some(Instr::Load { result: ValType::I64, bytes: 1, signed: false, align: 0, offset: 0 })
+        Some(Instr::Load {
+            result: ValType::I64,
+            bytes: 1,
+            signed: false,
+            align: 0,
+            offset: 0,
+        })
     } else if word == b"load16_s".as_slice() {
-        Some(Instr::Load { result: ValType::I64, bytes: 2, signed: true, align: 0, offset: 0 })
+        Some(Instr::Load {
+            result: ValType::I64,
+            bytes: 2,
+            signed: true,
+            align: 0,
+            offset: 0,
+        })
     } else if word == b"load16_u".as_slice() {
-        Some(Instr::Load { result: ValType::I64, bytes: 2, signed: false, align: 0, offset: 0 })
+        Some(Instr::Load {
+            result: ValType::I64,
+            bytes: 2,
+            signed: false,
+            align: 0,
+            offset: 0,
+        })
     } else if word == b"load32_s".as_slice() {
-        Some(Instr::Load { result: ValType::I64, bytes: 4, signed: true, align: 0, offset: 0 })
+        Some(Instr::Load {
+            result: ValType::I64,
+            bytes: 4,
+            signed: true,
+            align: 0,
+            offset: 0,
+        })
     } else if word == b"load32_u".as_slice() {
-        Some(Instr::Load { result: ValType::I64, bytes: 4, signed: false, align: 0, offset: 0 })
+        Some(Instr::Load {
+            result: ValType::I64,
+            bytes: 4,
+            signed: false,
+            align: 0,
+            offset: 0,
+        })
     } else if word == b"store".as_slice() {
-        Some(Instr::Store { value: ValType::I64, bytes: 8, align: 0, offset: 0 })
+        Some(Instr::Store {
+            value: ValType::I64,
+            bytes: 8,
+            align: 0,
+            offset: 0,
+        })
     } else if word == b"store8".as_slice() {
-        Some(Instr::Store { value: ValType::I64, bytes: 1, align: 0, offset: 0 })
+        Some(Instr::Store {
+            value: ValType::I64,
+            bytes: 1,
+            align: 0,
+            offset: 0,
+        })
     } else if word == b"store16".as_slice() {
-        Some(Instr::Store { value: ValType::I64, bytes: 2, align: 0, offset: 0 })
+        Some(Instr::Store {
+            value: ValType::I64,
+            bytes: 2,
+            align: 0,
+            offset: 0,
+        })
     } else if word == b"store32".as_slice() {
-        Some(Instr::Store { value: ValType::I64, bytes: 4, align: 0, offset: 0 })
+        Some(Instr::Store {
+            value: ValType::I64,
+            bytes: 4,
+            align: 0,
+            offset: 0,
+        })
     } else {
         None
     }
@@ -235,7 +348,10 @@ fn plain_named(alloc: Global, word: &[u8]) -> Option<Instr>
     } else if word == b"br_if".as_slice() {
         Some(Instr::BrIf(0))
     } else if word == b"br_table".as_slice() {
-        Some(Instr::BrTable { labels: Indices::from_vec(Vec::new(alloc)), last: 0 })
+        Some(Instr::BrTable {
+            labels: Indices::from_vec(Vec::new(alloc)),
+            last: 0,
+        })
     } else if word == b"return".as_slice() {
         Some(Instr::Return)
     } else if word == b"call".as_slice() {

@@ -9,14 +9,14 @@ ghost use Rattle.mv_statements.specs.Form.{clean};
 
 use crate::fault::TextKind;
 use crate::head::{Head, head_named};
+use crate::instructions::immediates;
 use crate::lists::{indices, maybe_index, maybe_val_type, val_types};
 use crate::words::Words;
-use crate::instructions::immediates;
 use mv_calls::OutOfMemory;
 use mv_scan::Token;
 use mv_syntax::{
-    Code, Element, Export, FuncType, Global as GlobalPart, Import, Instr, Limits, Segment,
-    ValType, ValTypes,
+    Code, Element, Export, FuncType, Global as GlobalPart, Import, Instr, Limits, Segment, ValType,
+    ValTypes,
 };
 use std::alloc::Global;
 
@@ -110,6 +110,7 @@ fn func(alloc: Global, words: &mut Words<'_>) -> Result<Statement, OutOfMemory>
 }
 
 /// `MIN [MAX]`
+#[tactic(auto, unfolding(crate::specs::Statements::limits))]
 fn limits(least: u32, words: &mut Words<'_>) -> Limits
     ensures { (made : Limits → Statement) → (made result, words.new) ≡ (limits least made).reads words.old }
 {

@@ -1,5 +1,5 @@
 //! The words of a line, read one after another.
-ghost use Rattle.std.specs.Prelude.{◌≡◌, ◌∷◌, ◌≤◌, ◌<◌, IfOk, Ok, Err, length, OnTrue, IfNone};
+ghost use Rattle.std.specs.Prelude.{◌≡◌, ◌∷◌, ◌≤◌, ◌<◌, IfOk, Ok, Err, length};
 ghost use Rattle.std.specs.Str.{is_utf8};
 ghost use Rattle.mv_scan.specs.declared.token.Token.TheVariants.{Quoted};
 ghost use Rattle.mv_statements.specs.declared.fault.TextKind.TheVariants.{Count};
