@@ -1,0 +1,9 @@
+use Rattle.mv_syntax.specs.Sections.{Parts}
+use Rattle.mv_text.proofs.Assembles.{if_spelled, if_refused}
+use Rattle.mv_text.proofs.text.assemble_parts.Goals as goal
+
+pub returns-clause-spelled : goal.returns-clause-spelled
+returns-clause-spelled c = if_spelled c.args.text.now c.read_text.result (λ (d : Parts). d) c.read_text.ensures.parts
+
+pub returns-clause-refused : goal.returns-clause-refused
+returns-clause-refused c = if_refused c.args.text.now c.read_text.result c.read_text.ensures.fault

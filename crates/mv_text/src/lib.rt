@@ -1,0 +1,14 @@
+//! The assembler: a text to the module that it spells, or to its first fault (docs/FORMATS.md, "Assembler text").
+#![tactic(auto)]
+
+mod comments;
+mod draft;
+mod state;
+#[cfg(test)]
+mod tests;
+mod text;
+mod unended;
+
+pub use draft::Draft;
+pub use mv_statements::{TextFault, TextKind};
+pub use text::assemble_parts;
