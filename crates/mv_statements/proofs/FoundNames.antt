@@ -1,5 +1,5 @@
 -- Under its name each instruction is found, with other immediates.
-use Rattle.std.proofs.Common.{◌≡◌, ℕ, ◌*◌, Bool, true, false, List, [], ◌∷◌, Option, Some, None, inl, inr, refl, ap, subst, sym}
+use Rattle.std.proofs.Common.{◌≡◌, ℕ, ◌*◌, Bool, true, false, [], Some, None, inl, inr, refl, ap, subst, sym}
 use Rattle.mv_syntax.specs.declared.ops.ValType.{ValType}
 use Rattle.mv_syntax.specs.declared.ops.ValType.TheVariants.{I32, I64}
 use Rattle.mv_syntax.specs.declared.instr.Instr.{Instr}

@@ -1,5 +1,5 @@
 -- What the words of a line are read as is what they spell.
-use Rattle.std.proofs.Common.{◌≡◌, ℕ, Bool, true, false, List, [], ◌∷◌, ◌++◌, length, Option, Some, None, Result, Ok, Err, IfOk, ◌↔◌, eqb, refl, sym, ap, subst, ◌∙◌, arith}
+use Rattle.std.proofs.Common.{◌≡◌, ℕ, List, [], ◌∷◌, ◌++◌, length, Option, Some, None, Result, Ok, Err, IfOk, ◌↔◌, refl, sym, ap, subst, ◌∙◌}
 use Rattle.std.proofs.lemmas.Bool.{eqb-true}
 use Rattle.std.proofs.lemmas.List.{append-nil, nil_from_length}
 use Rattle.mv_calls.specs.declared.fault.OutOfMemory.{OutOfMemory}
@@ -8,7 +8,7 @@ use Rattle.mv_scan.specs.declared.token.Token.TheVariants.{Plain, Quoted, Glued}
 use Rattle.mv_statements.specs.declared.head.Head.{Head}
 use Rattle.mv_statements.specs.declared.statement.Statement.{Statement}
 use Rattle.mv_statements.specs.declared.statement.Reading.{Reading}
-use Rattle.mv_statements.specs.declared.statement.Reading.TheVariants.{Unknown, Known}
+use Rattle.mv_statements.specs.declared.statement.Reading.TheVariants.{Known}
 use Rattle.mv_statements.specs.Form.{At, clean}
 use Rattle.mv_statements.specs.Forms.{last}
 use Rattle.mv_statements.specs.Statements.{Spells, statement, head_word, head_named, known, read_behind, reading_of}

@@ -1,6 +1,6 @@
 -- Lines of an assembler text: a line begins with the word of a directive or the name of an instruction, and behind it stand
 -- the words of its form (docs/FORMATS.md, "Assembler text").
-use Rattle.std.specs.Prelude.{◌≡◌, ℕ, ◌-◌, nat_le, true, false, List, [], ◌∷◌, length, Option, Some, None, codes}
+use Rattle.std.specs.Prelude.{◌≡◌, ℕ, ◌-◌, nat_le, List, [], ◌∷◌, length, Option, Some, None, codes}
 use Rattle.std.specs.Option.{option_map}
 use Rattle.mv_syntax.specs.declared.ops.ValType.{ValType}
 use Rattle.mv_syntax.specs.declared.ops.ValType.TheVariants.{I32}
@@ -9,8 +9,7 @@ use Rattle.mv_syntax.specs.declared.instr.Instr.TheVariants as instr
 use Rattle.mv_syntax.specs.declared.types.Limits.{Limits}
 use Rattle.mv_syntax.specs.Kept.{IsSpellable}
 use Rattle.mv_scan.specs.declared.token.Token.{Token}
-use Rattle.mv_scan.specs.declared.token.Token.TheVariants.{Plain, Quoted, Glued}
-use Rattle.mv_statements.specs.declared.fault.TextKind.{TextKind}
+use Rattle.mv_scan.specs.declared.token.Token.TheVariants.{Plain}
 use Rattle.mv_statements.specs.declared.fault.TextKind.TheVariants.{Count}
 use Rattle.mv_statements.specs.declared.head.Head.{Head}
 use Rattle.mv_statements.specs.declared.head.Head.TheVariants as heads

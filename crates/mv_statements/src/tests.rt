@@ -84,23 +84,142 @@ Number i64.const 0x10000000000000000
 Number br -0
 ";
 
+/// The instructions, each with its immediates.
+const INSTRUCTIONS: &str = "\
+unreachable
+nop
+block
+loop
+if
+else
+end
+br 0
+br_if 0
+br_table 0
+return
+call 0
+call_indirect 0
+drop
+select
+local.get 0
+local.set 0
+local.tee 0
+global.get 0
+global.set 0
+memory.size
+memory.grow
+i32.load 0 0
+i32.load8_s 0 0
+i32.load8_u 0 0
+i32.load16_s 0 0
+i32.load16_u 0 0
+i32.store 0 0
+i32.store8 0 0
+i32.store16 0 0
+i32.const 0
+i32.eqz
+i32.clz
+i32.ctz
+i32.popcnt
+i32.eq
+i32.ne
+i32.lt_s
+i32.lt_u
+i32.gt_s
+i32.gt_u
+i32.le_s
+i32.le_u
+i32.ge_s
+i32.ge_u
+i32.add
+i32.sub
+i32.mul
+i32.div_s
+i32.div_u
+i32.rem_s
+i32.rem_u
+i32.and
+i32.or
+i32.xor
+i32.shl
+i32.shr_s
+i32.shr_u
+i32.rotl
+i32.rotr
+i64.load 0 0
+i64.load8_s 0 0
+i64.load8_u 0 0
+i64.load16_s 0 0
+i64.load16_u 0 0
+i64.load32_s 0 0
+i64.load32_u 0 0
+i64.store 0 0
+i64.store8 0 0
+i64.store16 0 0
+i64.store32 0 0
+i64.const 0
+i64.eqz
+i64.clz
+i64.ctz
+i64.popcnt
+i64.eq
+i64.ne
+i64.lt_s
+i64.lt_u
+i64.gt_s
+i64.gt_u
+i64.le_s
+i64.le_u
+i64.ge_s
+i64.ge_u
+i64.add
+i64.sub
+i64.mul
+i64.div_s
+i64.div_u
+i64.rem_s
+i64.rem_u
+i64.and
+i64.or
+i64.xor
+i64.shl
+i64.shr_s
+i64.shr_u
+i64.rotl
+i64.rotr
+i32.wrap_i64
+i64.extend_i32_s
+i64.extend_i32_u
+";
+
+/// Whether a line is an instruction.
+fn is_instruction(alloc: Global, line: &str) -> Result<bool, Fail> {
+    let words = split_line(alloc, line.as_bytes())?;
+    match read_statement(alloc, words.as_slice())? {
+        Reading::Unknown => Ok(false),
+        Reading::Known { statement, fault } => match statement {
+            Statement::Instr(_instr) => Ok(fault.is_none()),
+            _ => Ok(false),
+        },
+    }
+}
+
 /// Whether the line of a row has the row's fault.
 fn comes(alloc: Global, row: &str) -> Result<bool, Fail> {
     let Some((fault, line)) = row.split_once(" ") else {
         return Ok(false);
     };
     let words = split_line(alloc, line.as_bytes())?;
-    Ok(match read_statement(alloc, words.as_slice())? {
-        Reading::Unknown => fault == "Word",
+    match read_statement(alloc, words.as_slice())? {
+        Reading::Unknown => Ok(fault == "Word"),
         Reading::Known {
             statement: _statement,
-            fault: Some(kind),
-        } => format!(in alloc; "{kind}")?.as_str() == fault,
-        Reading::Known {
-            statement: _statement,
-            fault: None,
-        } => fault == "ok",
-    })
+            fault: kind,
+        } => match kind {
+            Some(kind) => Ok(format!(in alloc; "{kind}")?.as_str() == fault),
+            None => Ok(fault == "ok"),
+        },
+    }
 }
 
 #[test]
@@ -114,5 +233,14 @@ fn each_kind_comes_in_its_order(rt: HostRuntime) -> Result<(), Fail> {
         kind: TextKind::Nest,
     };
     assert_eq!(rt; format!(in alloc; "{fault}")?.as_str(), "Nest 7");
+    Ok(())
+}
+
+#[test]
+fn each_instruction_has_its_line(rt: HostRuntime) -> Result<(), Fail> {
+    let alloc = rt.alloc();
+    for line in INSTRUCTIONS.lines() {
+        assert!(rt; is_instruction(alloc, line)?, "{line}");
+    }
     Ok(())
 }

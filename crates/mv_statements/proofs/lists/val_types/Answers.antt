@@ -1,4 +1,3 @@
-use Rattle.std.proofs.Common.{◌≡◌}
 use Rattle.mv_statements.specs.Forms.{many}
 use Rattle.mv_statements.specs.Words.{val_type}
 use Rattle.mv_statements.proofs.Loops.{goes_on, is_done}
