@@ -173,7 +173,7 @@ pub record Rest (f : Body) (before after : Parts) (lines : List (List Token)) : 
   pub items : List Item
   pub spelled : SpellsItems items (with_function (completed f code) before) after more
 
-abbrev Goal : Option Body → Parts → Parts → List (List Token) → Type 0
+abbrev pub Goal : Option Body → Parts → Parts → List (List Token) → Type 0
 Goal None before after lines = (items : List Item) × SpellsItems items before after lines
 Goal (Some f) before after lines = Rest f before after lines
 
@@ -186,7 +186,15 @@ function_more : (before after : Parts) (words : List Token) (lines : List (List 
 function_more before after words lines t locals s r =
     let f : Function = completed (begun t locals) r.code in
     let spelled : SpellsFunction f (words ∷ (r.inner ++ r.last ∷ [])) = record {
-      first = words; inner = r.inner; last = r.last; whole = refl; begins = s; code = r.code; code_is = refl; each = r.each; ends = r.ends;
+      first = words;
+      inner = r.inner;
+      last = r.last;
+      whole = refl;
+      begins = s;
+      code = r.code;
+      code_is = refl;
+      each = r.each;
+      ends = r.ends;
       closed = closes_body (r.code ++ End ∷ []) (closes r.code [] r.closes);
     } in
     let parts : words ∷ lines ≡ (words ∷ (r.inner ++ r.last ∷ [])) ++ r.more = ap (λ (x : List (List Token)). words ∷ x) (r.whole ∙ sym (append_assoc r.inner (r.last ∷ []) r.more)) in
@@ -257,7 +265,7 @@ words_more : (s : State) (words : List Token) (lines : List (List Token)) (after
 words_more s [] lines after next e rest = (let same : s ≡ next = cc in subst (λ (n : State). Goal n.inside n.parts after lines) (sym same) rest)
 words_more s (word ∷ words) lines after next e rest = line_more s s.inside refl (word ∷ words) lines after next (placed_at s (reading_of (word ∷ words)) next e) rest
 
-read_is_spelled : (lines : List (List ℕ)) (s : State) (at : ℕ) (after : Parts) → assembled_from s at lines ≡ Ok after → Goal s.inside s.parts after (sentences lines)
+pub read_is_spelled : (lines : List (List ℕ)) (s : State) (at : ℕ) (after : Parts) → assembled_from s at lines ≡ Ok after → Goal s.inside s.parts after (sentences lines)
 read_is_spelled [] s at after e = finished_ok s.inside s.parts after at e
 read_is_spelled (line ∷ lines) s at after e =
     let t = stepped_ok at (step s (words_on line)) (λ next. assembled_from next (at + 1) lines) after e in
@@ -266,7 +274,7 @@ read_is_spelled (line ∷ lines) s at after e =
 -- ## What is spelled is read
 
 -- the lines lead to these parts
-abbrev Leads : State → List (List Token) → Parts → Type 0
+abbrev pub Leads : State → List (List Token) → Parts → Type 0
 Leads s [] after = s ≡ outside after
 Leads s (words ∷ lines) after = (next : State) × (step s words ≡ Ok next) × Leads next lines after
 
@@ -274,7 +282,7 @@ words_lead : (s : State) (words : List Token) (lines : List (List Token)) (after
 words_lead s [] lines after h = (s, refl, h)
 words_lead s (word ∷ words) lines after h = h
 
-leads_read : (lines : List (List ℕ)) (s : State) (at : ℕ) (after : Parts) → Leads s (sentences lines) after → assembled_from s at lines ≡ Ok after
+pub leads_read : (lines : List (List ℕ)) (s : State) (at : ℕ) (after : Parts) → Leads s (sentences lines) after → assembled_from s at lines ≡ Ok after
 leads_read [] s at after h = rw h refl
 leads_read (line ∷ lines) s at after h =
     let w = words_lead s (words_on line) (sentences lines) after h in
@@ -343,7 +351,7 @@ item_leads : (item : Item) (front rest : List (List Token)) (before after : Part
 item_leads (Directive st) front rest before after s h = directive_leads st front rest before after s h
 item_leads (Defines f) front rest before after s h = function_leads f front rest before after s h
 
-items_lead : (items : List Item) (before after : Parts) (lines : List (List Token)) → SpellsItems items before after lines → Leads (outside before) lines after
+pub items_lead : (items : List Item) (before after : Parts) (lines : List (List Token)) → SpellsItems items before after lines → Leads (outside before) lines after
 items_lead [] before after lines h = subst (λ (x : List (List Token)). Leads (outside before) x after) (sym h.0) (ap outside (sym h.1))
 items_lead (item ∷ items) before after lines h =
     subst (λ (x : List (List Token)). Leads (outside before) x after) (sym h.2) (item_leads item h.0 h.1 before after h.3 (items_lead items (with_item item before) after h.1 h.4))

@@ -1,7 +1,7 @@
 -- The grammar of an assembler text: which texts spell these parts (docs/FORMATS.md, "Assembler text"). A text is a list of
 -- directives and functions; a function is a block of lines. No line is judged by itself: nothing here says what is wrong with
 -- one. `assemble` is proved to find exactly the parts that a text spells.
-use Rattle.std.specs.Prelude.{◌≡◌, ◌≤◌, ◌^◌, ℕ, false, List, [], ◌∷◌, ◌++◌, length}
+use Rattle.std.specs.Prelude.{◌≡◌, ◌⊎◌, ◌+◌, ◌<◌, ◌≤◌, ◌^◌, ℕ, false, List, [], ◌∷◌, ◌++◌, length}
 use Rattle.mv_syntax.specs.declared.instr.Instr.{Instr}
 use Rattle.mv_syntax.specs.declared.instr.Instr.TheVariants.{End}
 use Rattle.mv_syntax.specs.declared.module.Func.{Func as Function}
@@ -85,3 +85,36 @@ pub record Spells (text : List ℕ) (parts : Parts) : Type 0 where
   pub small : length text ≤ 2 ^ 24
   pub items : List Item
   pub spelled : SpellsItems items nothing_yet.parts parts (sentences (lines_of text))
+
+-- ## Its first faulty line
+
+-- some lines behind these make a text of them, its size aside
+pub record CanGoOn (lines : List (List ℕ)) : Type 0 where
+  pub more : List (List ℕ)
+  pub parts : Parts
+  pub items : List Item
+  pub spelled : SpellsItems items nothing_yet.parts parts (sentences (lines ++ more))
+
+-- no lines behind these do
+abbrev pub CannotGoOn : List (List ℕ) → Type 0
+CannotGoOn lines = (more : List (List ℕ)) (items : List Item) (parts : Parts) → SpellsItems items nothing_yet.parts parts (sentences (lines ++ more)) → ⊥
+
+-- the lines before this one can go on, and no longer with it
+pub record StopsAt (lines : List (List ℕ)) (at : ℕ) : Type 0 where
+  pub before : List (List ℕ)
+  pub line : List ℕ
+  pub after : List (List ℕ)
+  pub whole : lines ≡ before ++ (line ∷ after)
+  pub place : at ≡ length before + 1
+  pub goes_on : CanGoOn before
+  pub stops : CannotGoOn (before ++ (line ∷ []))
+
+-- all lines can go on, but end too early; the place is behind the last
+pub record EndsEarly (lines : List (List ℕ)) (at : ℕ) : Type 0 where
+  pub place : at ≡ length lines + 1
+  pub goes_on : CanGoOn lines
+  pub stops : (items : List Item) (parts : Parts) → SpellsItems items nothing_yet.parts parts (sentences lines) → ⊥
+
+-- line 1 where the text is too large, else the line where it stops
+abbrev pub IsFirstFaultyLine : List ℕ → ℕ → Type 0
+IsFirstFaultyLine text at = ((at ≡ 1) × (2 ^ 24 < length text)) ⊎ ((length text ≤ 2 ^ 24) × (StopsAt (lines_of text) at ⊎ EndsEarly (lines_of text) at))

@@ -3,6 +3,7 @@
 
 mod comments;
 mod draft;
+mod laws;
 mod state;
 #[cfg(test)]
 mod tests;
@@ -10,5 +11,6 @@ mod text;
 mod unended;
 
 pub use draft::Draft;
+pub use laws::a_text_is_one_module_or_faulty;
 pub use mv_statements::{TextFault, TextKind};
 pub use text::assemble_parts;

@@ -68,11 +68,7 @@ fn kind_before(misplaced: bool, fault: Option<TextKind>) -> Option<TextKind>
     }
 }
 
-fn place_outside(
-    alloc: Global,
-    parts: Draft,
-    statement: Statement,
-) -> Result<State, Or<TextKind>>
+fn place_outside(alloc: Global, parts: Draft, statement: Statement) -> Result<State, Or<TextKind>>
     ensures placed { IfOk result (λ next. place_outside parts statement ≡ Ok next) }
     ensures fault { IfFault result (λ kind. place_outside parts statement ≡ Err kind) }
 {
@@ -92,11 +88,7 @@ fn place_outside(
     }
 }
 
-fn place_inside(
-    parts: Draft,
-    func: Unended,
-    statement: Statement,
-) -> Result<State, Or<TextKind>>
+fn place_inside(parts: Draft, func: Unended, statement: Statement) -> Result<State, Or<TextKind>>
     ensures placed { IfOk result (λ next. place_inside parts func statement ≡ Ok next) }
     ensures fault { IfFault result (λ kind. place_inside parts func statement ≡ Err kind) }
 {

@@ -5,7 +5,7 @@ ghost use Rattle.mv_scan.specs.Lines.{lines_of};
 ghost use Rattle.mv_syntax.specs.Sections.{Parts};
 ghost use Rattle.mv_text.specs.Comments.{words_on};
 ghost use Rattle.mv_text.specs.Assembly.{assembled, assembled_from, finished, nothing, step};
-ghost use Rattle.mv_text.specs.Grammar.{Spells};
+ghost use Rattle.mv_text.specs.Grammar.{IsFirstFaultyLine, Spells};
 
 use crate::comments::content_of;
 use crate::draft::Draft;
@@ -33,13 +33,13 @@ fn finish(state: State, at: u32) -> Result<Draft, TextFault>
     ensures fault { IfErr result (λ fault. finished state at ≡ Err fault) }
 {
     let State { parts, inside } = state;
-    match inside {
-        None => Ok(parts),
-        Some(_) => Err(TextFault {
+    if inside.is_some() {
+        return Err(TextFault {
             line: at,
             kind: TextKind::Unended,
-        }),
+        });
     }
+    Ok(parts)
 }
 
 /// The lines of a text.
@@ -88,6 +88,7 @@ pub fn assemble_parts(alloc: Global, text: &[u8]) -> Result<Draft, Or<TextFault>
     ensures fault { IfFault result (λ fault. assembled text.now ≡ Err fault) }
     ensures spelled { IfOk result (λ parts. (p : Parts) → Spells text.now p ↔ (p ≡ parts)) }
     ensures refused { IsFault result → (p : Parts) → Spells text.now p → ⊥ }
+    ensures first { IfFault result (λ fault. IsFirstFaultyLine text.now fault.line) }
 {
     read_text(alloc, text)
 }

@@ -1,5 +1,6 @@
 use Rattle.mv_syntax.specs.Sections.{Parts}
 use Rattle.mv_text.proofs.Assembles.{if_spelled, if_refused}
+use Rattle.mv_text.proofs.FirstFault.{if_first}
 use Rattle.mv_text.proofs.text.assemble_parts.Goals as goal
 
 pub returns-clause-spelled : goal.returns-clause-spelled
@@ -7,3 +8,6 @@ returns-clause-spelled c = if_spelled c.args.text.now c.read_text.result (λ (d 
 
 pub returns-clause-refused : goal.returns-clause-refused
 returns-clause-refused c = if_refused c.args.text.now c.read_text.result c.read_text.ensures.fault
+
+pub returns-clause-first : goal.returns-clause-first
+returns-clause-first c = if_first c.args.text.now c.read_text.result c.read_text.ensures.fault
