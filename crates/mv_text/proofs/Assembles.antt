@@ -1,6 +1,6 @@
 -- What a text is read as is what it spells.
-use Rattle.std.proofs.Common.{◌≡◌, ℕ, ◌+◌, ◌^◌, ◌≤◌, Bool, true, false, cond, ltb, List, [], ◌∷◌, ◌++◌, length, Option, Some, None, is_some, Result, Ok, Err, IfOk, ◌↔◌, ◌⊎◌, inl, inr, refl, sym, ap, subst, ◌∙◌, append_assoc, arith}
-use Rattle.std.specs.Prelude.{option_and_then, nat_lt}
+use Rattle.std.proofs.Common.{◌≡◌, ℕ, ◌+◌, ◌^◌, Bool, true, false, cond, ltb, List, [], ◌∷◌, ◌++◌, length, Option, Some, None, Result, Ok, Err, IfOk, ◌↔◌, ◌⊎◌, inl, inr, refl, sym, ap, subst, ◌∙◌, append_assoc}
+use Rattle.std.specs.Prelude.{option_and_then}
 use Rattle.std.proofs.lemmas.Bool.{ltb-false, le-ltb}
 use Rattle.std.proofs.lemmas.List.{append-nil}
 use Rattle.mv_calls.specs.Or.{IfFault, IsFault}
@@ -13,10 +13,8 @@ use Rattle.mv_syntax.specs.declared.instr.Instr.TheVariants.{End}
 use Rattle.mv_syntax.specs.declared.module.Func.{Func as Function}
 use Rattle.mv_syntax.specs.Nesting.{nest}
 use Rattle.mv_syntax.specs.NestingLaws.{Onward, Closes, closes_body, body_closes}
-use Rattle.mv_syntax.specs.Tree.{IsClosedCode}
 use Rattle.mv_syntax.specs.Sections.{Parts, nothing_yet}
 use Rattle.mv_scan.specs.declared.token.Token.{Token}
-use Rattle.mv_scan.specs.declared.token.Token.TheVariants.{Plain}
 use Rattle.mv_scan.specs.Lines.{lines_of}
 use Rattle.mv_statements.specs.declared.fault.TextFault.{TextFault}
 use Rattle.mv_statements.specs.declared.fault.TextKind.{TextKind}
@@ -30,7 +28,7 @@ use Rattle.mv_statements.proofs.Spelled.{spells_reading, reading_spells}
 use Rattle.mv_text.specs.States.{Body}
 use Rattle.mv_text.specs.declared.state.State.{State}
 use Rattle.mv_text.specs.Comments.{words_on}
-use Rattle.mv_text.specs.Assembly.{added, with_function, is_misplaced_outside, is_misplaced_inside, is_misplaced, kind_before, stays_open, begun, ended, outside, within, with_instr, end_func, place_outside, place_inside, place, unless_faulty, judged, step, stepped, finished, finished_in, assembled_from, nothing, assembled, fault_at}
+use Rattle.mv_text.specs.Assembly.{added, with_function, is_misplaced_outside, is_misplaced_inside, is_misplaced, kind_before, stays_open, begun, ended, outside, within, with_instr, end_func, place_outside, place_inside, place, unless_faulty, judged, step, stepped, finished_in, assembled_from, nothing, assembled, fault_at}
 use Rattle.mv_text.specs.Grammar.{sentences, if_words, SpellsCode, SpellsFunction, Item, Directive, Defines, IsPart, SpellsDirective, SpellsItem, with_item, SpellsItems, Spells}
 
 -- ## Blocks

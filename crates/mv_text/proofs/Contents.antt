@@ -1,5 +1,5 @@
 -- What stands before a comment stands in front of the line.
-use Rattle.std.proofs.Common.{◌≡◌, ℕ, suc, Bool, true, false, cond, List, [], ◌∷◌, length, take, refl, ap, ◌&&◌}
+use Rattle.std.proofs.Common.{◌≡◌, ℕ, Bool, true, false, cond, List, [], ◌∷◌, length, take, refl, ap, ◌&&◌}
 use Rattle.mv_text.specs.declared.comments.Quoting.{Quoting}
 use Rattle.mv_text.specs.Comments.{after_byte, before_comment, begins_comment, is_outside}
 

@@ -1,14 +1,12 @@
 -- The line of the first fault is the first with which a text can't go on.
-use Rattle.std.proofs.Common.{◌≡◌, ℕ, ◌+◌, ◌^◌, ◌≤◌, ◌<◌, Bool, true, false, cond, ltb, List, [], ◌∷◌, ◌++◌, length, Option, Some, None, Result, Ok, Err, IfOk, ◌⊎◌, inl, inr, refl, sym, ap, subst, ◌∙◌, append_assoc, arith}
+use Rattle.std.proofs.Common.{◌≡◌, ℕ, ◌+◌, ◌^◌, Bool, true, false, cond, ltb, List, [], ◌∷◌, ◌++◌, length, Option, Some, None, Result, Ok, Err, ◌⊎◌, inl, inr, refl, sym, ap, ◌∙◌, append_assoc, arith}
 use Rattle.std.specs.Prelude.{codes}
 use Rattle.std.proofs.lemmas.Bool.{ltb-false, ltb-true}
-use Rattle.std.proofs.lemmas.List.{append-nil}
 use Rattle.mv_calls.specs.Or.{IfFault}
 use Rattle.mv_calls.specs.declared.fault.Or.{Or}
 use Rattle.mv_calls.specs.declared.fault.Or.TheVariants.{Fault, OutOfMemory}
 use Rattle.mv_syntax.specs.declared.instr.Instr.TheVariants.{End}
 use Rattle.mv_syntax.specs.Sections.{Parts, nothing_yet}
-use Rattle.mv_scan.specs.declared.token.Token.{Token}
 use Rattle.mv_scan.specs.declared.token.Token.TheVariants.{Plain}
 use Rattle.mv_scan.specs.Lines.{lines_of}
 use Rattle.mv_statements.specs.declared.fault.TextFault.{TextFault}
@@ -21,8 +19,8 @@ use Rattle.mv_statements.specs.Statements.{reading_of, immediates, instruction, 
 use Rattle.mv_text.specs.States.{Body}
 use Rattle.mv_text.specs.declared.state.State.{State}
 use Rattle.mv_text.specs.Comments.{words_on}
-use Rattle.mv_text.specs.Assembly.{with_function, ended, outside, within, judged, step, stepped, finished, finished_in, assembled_from, nothing, assembled, fault_at}
-use Rattle.mv_text.specs.Grammar.{sentences, Item, SpellsItems, CanGoOn, CannotGoOn, StopsAt, EndsEarly, IsFirstFaultyLine}
+use Rattle.mv_text.specs.Assembly.{with_function, ended, outside, within, judged, step, stepped, finished_in, assembled_from, nothing, assembled, fault_at}
+use Rattle.mv_text.specs.Grammar.{sentences, CanGoOn, CannotGoOn, StopsAt, EndsEarly, IsFirstFaultyLine}
 use Rattle.mv_text.proofs.Assembles.{read_is_spelled, leads_read, items_lead}
 
 -- ## Where the fault is met
