@@ -73,7 +73,7 @@ kind_before false fault = fault
 abbrev pub stays_open : Result (Option (List Bool)) ReadKind → Option (List Bool)
 stays_open (Ok (Some opens)) = Some opens
 stays_open (Ok None) = None
-stays_open (Err kind) = None
+stays_open (Err reason) = None
 
 abbrev pub begun : ℕ → List ValType → Body
 begun t locals = record { ftype = t; locals = locals; code = []; opens = [] }
