@@ -1,3 +1,5 @@
 pub mod Contents
 pub mod Assembles
 pub mod FirstFault
+pub mod Small
+pub mod Encoded
