@@ -3,3 +3,4 @@ pub mod Assembles
 pub mod FirstFault
 pub mod Small
 pub mod Encoded
+pub mod Items
