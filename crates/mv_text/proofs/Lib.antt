@@ -4,3 +4,4 @@ pub mod FirstFault
 pub mod Small
 pub mod Encoded
 pub mod Items
+pub mod Facts
