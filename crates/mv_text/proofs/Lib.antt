@@ -5,3 +5,5 @@ pub mod Small
 pub mod Encoded
 pub mod Items
 pub mod Facts
+pub mod Costs
+pub mod Budget
