@@ -73,7 +73,11 @@ many_of : {A : Type 0} (f : Form A) (w : A → List ℕ) (items : List A) → Al
 unfolding many
 many_of f w [] h = (refl, refl)
 many_of f w (a ∷ items) h = record {
-  first = a; front = w a; back = flat_map w items; whole = refl; front_spells = h.0;
+  first = a;
+  front = w a;
+  back = flat_map w items;
+  whole = refl;
+  front_spells = h.0;
   back_spells = record { first = items; front = flat_map w items; back = []; whole = sym (append-nil (flat_map w items)); front_spells = many_of f w items h.1; back_spells = (refl, refl) };
 }
 
@@ -99,7 +103,11 @@ each_func : (fs : List Function) → AllByRecursion ByFunc fs → (each_of func 
 unfolding each_of
 each_func [] h = (refl, refl)
 each_func (f ∷ fs) h = record {
-  first = f; front = written_func f; back = flat_map written_func fs; whole = refl; front_spells = h.0;
+  first = f;
+  front = written_func f;
+  back = flat_map written_func fs;
+  whole = refl;
+  front_spells = h.0;
   back_spells = record { first = fs; front = flat_map written_func fs; back = []; whole = sym (append-nil (flat_map written_func fs)); front_spells = each_func fs h.1; back_spells = (refl, refl) };
 }
 
@@ -326,18 +334,18 @@ written_small : (p : Parts) (n : ℕ) → InParts p n → Small (written p)
 unfolding written
 written_small p n h =
     let all : SmallText (written p) =
-        joined (joined (joined (joined (joined (joined (joined (joined (joined (joined (joined (small_text written_preamble preamble_small)
-        (small_text (written_list 1 written_func_type p.types) (small_list 1 written_func_type p.types (omega arith) h.types.small)))
-        (small_text (written_list 2 written_import p.imports) (small_list 2 written_import p.imports (omega arith) h.imports.small)))
-        (small_text (written_list 3 short_u32 (types_of p.funcs)) (small_list 3 short_u32 (types_of p.funcs) (omega arith) (small_many (types_of p.funcs)))))
-        (small_text (written_one 4 (λ t. 1 ∷ written_table t) p.table) (small_one 4 (λ t. 1 ∷ written_table t) p.table (omega arith) (λ (l : Limits). (omega arith, (omega arith, limits_small l))))))
-        (small_text (written_one 5 (λ m. 1 ∷ written_limits m) p.memory) (small_one 5 (λ m. 1 ∷ written_limits m) p.memory (omega arith) (λ (l : Limits). (omega arith, limits_small l)))))
-        (small_text (written_list 6 written_global p.globals) (small_list 6 written_global p.globals (omega arith) h.globals.small)))
-        (small_text (written_list 7 written_export p.exports) (small_list 7 written_export p.exports (omega arith) h.exports.small)))
-        (small_text (written_one 8 short_u32 p.start) (small_one 8 short_u32 p.start (omega arith) (λ (x : ℕ). small_u32 x))))
-        (small_text (written_list 9 written_element p.elements) (small_list 9 written_element p.elements (omega arith) h.elements.small)))
-        (small_text (written_list 10 written_func p.funcs) (small_list 10 written_func p.funcs (omega arith) h.funcs.small)))
-        (small_text (written_list 11 written_segment p.segments) (small_list 11 written_segment p.segments (omega arith) h.segments.small)) in
+    joined (joined (joined (joined (joined (joined (joined (joined (joined (joined (joined (small_text written_preamble preamble_small)
+    (small_text (written_list 1 written_func_type p.types) (small_list 1 written_func_type p.types (omega arith) h.types.small)))
+    (small_text (written_list 2 written_import p.imports) (small_list 2 written_import p.imports (omega arith) h.imports.small)))
+    (small_text (written_list 3 short_u32 (types_of p.funcs)) (small_list 3 short_u32 (types_of p.funcs) (omega arith) (small_many (types_of p.funcs)))))
+    (small_text (written_one 4 (λ t. 1 ∷ written_table t) p.table) (small_one 4 (λ t. 1 ∷ written_table t) p.table (omega arith) (λ (l : Limits). (omega arith, (omega arith, limits_small l))))))
+    (small_text (written_one 5 (λ m. 1 ∷ written_limits m) p.memory) (small_one 5 (λ m. 1 ∷ written_limits m) p.memory (omega arith) (λ (l : Limits). (omega arith, limits_small l)))))
+    (small_text (written_list 6 written_global p.globals) (small_list 6 written_global p.globals (omega arith) h.globals.small)))
+    (small_text (written_list 7 written_export p.exports) (small_list 7 written_export p.exports (omega arith) h.exports.small)))
+    (small_text (written_one 8 short_u32 p.start) (small_one 8 short_u32 p.start (omega arith) (λ (x : ℕ). small_u32 x))))
+    (small_text (written_list 9 written_element p.elements) (small_list 9 written_element p.elements (omega arith) h.elements.small)))
+    (small_text (written_list 10 written_func p.funcs) (small_list 10 written_func p.funcs (omega arith) h.funcs.small)))
+    (small_text (written_list 11 written_segment p.segments) (small_list 11 written_segment p.segments (omega arith) h.segments.small)) in
     all.holds
 
 -- the parts that a text spells are those of a module

@@ -45,7 +45,11 @@ pub many_made : (xs : List ℕ) → AreU32 xs → (many u32 (length xs)).spells 
 unfolding many
 many_made [] h = (refl, refl)
 many_made (x ∷ xs) h = record {
-  first = x; front = short_u32 x; back = flat_map short_u32 xs; whole = refl; front_spells = u32_made x h.0;
+  first = x;
+  front = short_u32 x;
+  back = flat_map short_u32 xs;
+  whole = refl;
+  front_spells = u32_made x h.0;
   back_spells = record { first = xs; front = flat_map short_u32 xs; back = []; whole = sym (append-nil (flat_map short_u32 xs)); front_spells = many_made xs h.1; back_spells = (refl, refl) };
 }
 

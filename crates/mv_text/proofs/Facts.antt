@@ -232,7 +232,6 @@ IsFit (statements.Element e) c = (v : ℕ) × (e ≡ record { offset = constant_
 IsFit (statements.Segment s) c = (v : ℕ) × (s ≡ record { offset = constant_code I32 v; bytes = s.bytes }) × (v < 2 ^ 32) × (length s.bytes ≤ c) × Small s.bytes
 IsFit (statements.Instr i) c = IsSound i × (label_count i ≤ c)
 
-
 -- ## Directives
 
 signature_fits : (s : Statement) (words more : List Token) (c : ℕ) → signature.spells s words more → cost words ≤ c → IsFit s c

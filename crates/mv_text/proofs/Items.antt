@@ -51,7 +51,11 @@ pub each_made : (c : List Instr) → AllByRecursion IsSound c → (many instruct
 unfolding many
 each_made [] h = (refl, refl)
 each_made (i ∷ c) h = record {
-  first = i; front = written_instruction i; back = written_code c; whole = refl; front_spells = (instr_written i h.0).spelled;
+  first = i;
+  front = written_instruction i;
+  back = written_code c;
+  whole = refl;
+  front_spells = (instr_written i h.0).spelled;
   back_spells = record { first = c; front = written_code c; back = []; whole = sym (append-nil (written_code c)); front_spells = each_made c h.1; back_spells = (refl, refl) };
 }
 
@@ -88,7 +92,11 @@ types_made : (ts : List ValType) → (many val_type (length ts)).spells (flat_ma
 unfolding many
 types_made [] = (refl, refl)
 types_made (t ∷ ts) = record {
-  first = t; front = written_type t; back = flat_map written_type ts; whole = refl; front_spells = type_made t;
+  first = t;
+  front = written_type t;
+  back = flat_map written_type ts;
+  whole = refl;
+  front_spells = type_made t;
   back_spells = record { first = ts; front = flat_map written_type ts; back = []; whole = sym (append-nil (flat_map written_type ts)); front_spells = types_made ts; back_spells = (refl, refl) };
 }
 
@@ -123,15 +131,28 @@ signature_text ps r = (96 ∷ []) ++ (short_u32 (length ps) ++ (flat_map written
 signature_made : (ps : List ValType) (r : Option ValType) → length ps ≤ 1000 → func_type.spells (signature_text ps r) (record { params = ps; result = r })
 unfolding func_type byte
 signature_made ps r le = record {
-  first = 96; front = 96 ∷ []; back = short_u32 (length ps) ++ (flat_map written_type ps ++ (short_u32 (count_of r) ++ (written_option written_type r ++ []))); whole = refl;
+  first = 96;
+  front = 96 ∷ [];
+  back = short_u32 (length ps) ++ (flat_map written_type ps ++ (short_u32 (count_of r) ++ (written_option written_type r ++ [])));
+  whole = refl;
   front_spells = record { sign = 96; spelled = refl; meant = refl };
   back_spells = record {
-    first = length ps; front = short_u32 (length ps); back = flat_map written_type ps ++ (short_u32 (count_of r) ++ (written_option written_type r ++ [])); whole = refl;
+    first = length ps;
+    front = short_u32 (length ps);
+    back = flat_map written_type ps ++ (short_u32 (count_of r) ++ (written_option written_type r ++ []));
+    whole = refl;
     front_spells = record { sign = length ps; spelled = u32_made (length ps) (omega arith); meant = rw (le-leb (length ps) 1000 le) refl };
     back_spells = record {
-      first = ps; front = flat_map written_type ps; back = short_u32 (count_of r) ++ (written_option written_type r ++ []); whole = refl; front_spells = types_made ps;
+      first = ps;
+      front = flat_map written_type ps;
+      back = short_u32 (count_of r) ++ (written_option written_type r ++ []);
+      whole = refl;
+      front_spells = types_made ps;
       back_spells = record {
-        first = count_of r; front = short_u32 (count_of r); back = written_option written_type r ++ []; whole = refl;
+        first = count_of r;
+        front = short_u32 (count_of r);
+        back = written_option written_type r ++ [];
+        whole = refl;
         front_spells = record { sign = count_of r; spelled = u32_made (count_of r) (omega (arith, count_few r)); meant = rw (le-leb (count_of r) 1 (count_few r)) refl };
         back_spells = record { first = r; front = written_option written_type r; back = []; whole = refl; front_spells = result_made r; back_spells = (refl, refl) };
       };
@@ -147,7 +168,10 @@ signature_written t le = by_text func_type written_func_type func_type_short (si
       length-append (flat_map written_type t.params) (short_u32 (count_of t.result) ++ (written_option written_type t.result ++ [])),
       length-append (short_u32 (count_of t.result)) (written_option written_type t.result ++ []),
       length-append (written_option written_type t.result) no_bytes,
-      u32_few (length t.params), u32_few (count_of t.result), types_few t.params, result_few t.result,
+      u32_few (length t.params),
+      u32_few (count_of t.result),
+      types_few t.params,
+      result_few t.result,
     ))
     (small_append (96 ∷ written_vector written_type t.params ++ short_u32 (count_of t.result)) (written_option written_type t.result)
     (small_append (96 ∷ written_vector written_type t.params) (short_u32 (count_of t.result)) (omega arith, small_append (short_u32 (length t.params)) (flat_map written_type t.params) (small_u32 (length t.params)) (types_small t.params)) (small_u32 (count_of t.result)))
@@ -172,11 +196,23 @@ unfolding import_ byte
 import_written i m n lt =
     by_text import_ written_import import_short (behind_size i.«module» ++ (behind_size i.name ++ ((0 ∷ []) ++ (short_u32 i.ftype ++ [])))) i (20 + (length i.«module» + length i.name))
     (record {
-      first = i.«module»; front = behind_size i.«module»; back = behind_size i.name ++ ((0 ∷ []) ++ (short_u32 i.ftype ++ [])); whole = refl; front_spells = name_made i.«module» m.utf8 m.few;
+      first = i.«module»;
+      front = behind_size i.«module»;
+      back = behind_size i.name ++ ((0 ∷ []) ++ (short_u32 i.ftype ++ []));
+      whole = refl;
+      front_spells = name_made i.«module» m.utf8 m.few;
       back_spells = record {
-        first = i.name; front = behind_size i.name; back = (0 ∷ []) ++ (short_u32 i.ftype ++ []); whole = refl; front_spells = name_made i.name n.utf8 n.few;
+        first = i.name;
+        front = behind_size i.name;
+        back = (0 ∷ []) ++ (short_u32 i.ftype ++ []);
+        whole = refl;
+        front_spells = name_made i.name n.utf8 n.few;
         back_spells = record {
-          first = 0; front = 0 ∷ []; back = short_u32 i.ftype ++ []; whole = refl; front_spells = record { sign = 0; spelled = refl; meant = refl };
+          first = 0;
+          front = 0 ∷ [];
+          back = short_u32 i.ftype ++ [];
+          whole = refl;
+          front_spells = record { sign = 0; spelled = refl; meant = refl };
           back_spells = record { first = i.ftype; front = short_u32 i.ftype; back = []; whole = refl; front_spells = u32_made i.ftype lt; back_spells = (refl, refl) };
         };
       };
@@ -186,7 +222,9 @@ import_written i m n lt =
       length-append (behind_size i.«module») (behind_size i.name ++ ((0 ∷ []) ++ (short_u32 i.ftype ++ []))),
       length-append (behind_size i.name) ((0 ∷ []) ++ (short_u32 i.ftype ++ [])),
       length-append (short_u32 i.ftype) no_bytes,
-      sized_few i.«module», sized_few i.name, u32_few i.ftype,
+      sized_few i.«module»,
+      sized_few i.name,
+      u32_few i.ftype,
     ))
     (small_append (behind_size i.«module» ++ behind_size i.name) (0 ∷ short_u32 i.ftype) (small_append (behind_size i.«module») (behind_size i.name) (small_sized i.«module» m.small) (small_sized i.name n.small)) (omega arith, small_u32 i.ftype))
 
@@ -195,9 +233,17 @@ unfolding export byte
 export_written x n le lt =
     by_text export written_export export_short (behind_size x.name ++ ((x.kind ∷ []) ++ (short_u32 x.index ++ []))) x (20 + length x.name)
     (record {
-      first = x.name; front = behind_size x.name; back = (x.kind ∷ []) ++ (short_u32 x.index ++ []); whole = refl; front_spells = name_made x.name n.utf8 n.few;
+      first = x.name;
+      front = behind_size x.name;
+      back = (x.kind ∷ []) ++ (short_u32 x.index ++ []);
+      whole = refl;
+      front_spells = name_made x.name n.utf8 n.few;
       back_spells = record {
-        first = x.kind; front = x.kind ∷ []; back = short_u32 x.index ++ []; whole = refl; front_spells = record { sign = x.kind; spelled = refl; meant = rw (le-leb x.kind 3 le) refl };
+        first = x.kind;
+        front = x.kind ∷ [];
+        back = short_u32 x.index ++ [];
+        whole = refl;
+        front_spells = record { sign = x.kind; spelled = refl; meant = rw (le-leb x.kind 3 le) refl };
         back_spells = record { first = x.index; front = short_u32 x.index; back = []; whole = refl; front_spells = u32_made x.index lt; back_spells = (refl, refl) };
       };
     })
@@ -222,9 +268,17 @@ global_written t m v lt =
     let c = const_made t v lt in
     by_text global written_global global_short (written_type t ++ ((flag m ∷ []) ++ (written_code (constant_code t v) ++ []))) g 60
     (record {
-      first = t; front = written_type t; back = (flag m ∷ []) ++ (written_code (constant_code t v) ++ []); whole = refl; front_spells = type_made t;
+      first = t;
+      front = written_type t;
+      back = (flag m ∷ []) ++ (written_code (constant_code t v) ++ []);
+      whole = refl;
+      front_spells = type_made t;
       back_spells = record {
-        first = m; front = flag m ∷ []; back = written_code (constant_code t v) ++ []; whole = refl; front_spells = mutable_made m;
+        first = m;
+        front = flag m ∷ [];
+        back = written_code (constant_code t v) ++ [];
+        whole = refl;
+        front_spells = mutable_made m;
         back_spells = record { first = constant_code t v; front = written_code (constant_code t v); back = []; whole = refl; front_spells = c.spelled; back_spells = (refl, refl) };
       };
     })
@@ -242,16 +296,30 @@ element_written v fs lt each few =
     let k : List ℕ = written_code (constant_code I32 v) in
     by_text element written_element element_short (short_u32 0 ++ (k ++ (written_vector short_u32 fs ++ []))) e (60 + 5 * length fs)
     (record {
-      first = 0; front = short_u32 0; back = k ++ (written_vector short_u32 fs ++ []); whole = refl; front_spells = zero_number;
+      first = 0;
+      front = short_u32 0;
+      back = k ++ (written_vector short_u32 fs ++ []);
+      whole = refl;
+      front_spells = zero_number;
       back_spells = record {
-        first = constant_code I32 v; front = k; back = written_vector short_u32 fs ++ []; whole = refl; front_spells = c.spelled;
+        first = constant_code I32 v;
+        front = k;
+        back = written_vector short_u32 fs ++ [];
+        whole = refl;
+        front_spells = c.spelled;
         back_spells = record { first = fs; front = written_vector short_u32 fs; back = []; whole = refl; front_spells = vector_made fs few each; back_spells = (refl, refl) };
       };
     })
     (omega (
       arith,
-      length-append (short_u32 0) (k ++ (written_vector short_u32 fs ++ [])), length-append k (written_vector short_u32 fs ++ []), length-append (written_vector short_u32 fs) no_bytes,
-      length-append (short_u32 (length fs)) (flat_map short_u32 fs), u32_few 0, u32_few (length fs), few_many fs, c.size,
+      length-append (short_u32 0) (k ++ (written_vector short_u32 fs ++ [])),
+      length-append k (written_vector short_u32 fs ++ []),
+      length-append (written_vector short_u32 fs) no_bytes,
+      length-append (short_u32 (length fs)) (flat_map short_u32 fs),
+      u32_few 0,
+      u32_few (length fs),
+      few_many fs,
+      c.size,
     ))
     (small_append (0 ∷ k) (written_vector short_u32 fs) (omega arith, c.small) (small_append (short_u32 (length fs)) (flat_map short_u32 fs) (small_u32 (length fs)) (small_many fs)))
 
@@ -263,19 +331,36 @@ segment_written v bs lt few h =
     let k : List ℕ = written_code (constant_code I32 v) in
     by_text segment written_segment segment_short (short_u32 0 ++ (k ++ (short_u32 (length bs) ++ (bs ++ [])))) s (60 + length bs)
     (record {
-      first = 0; front = short_u32 0; back = k ++ (short_u32 (length bs) ++ (bs ++ [])); whole = refl; front_spells = zero_number;
+      first = 0;
+      front = short_u32 0;
+      back = k ++ (short_u32 (length bs) ++ (bs ++ []));
+      whole = refl;
+      front_spells = zero_number;
       back_spells = record {
-        first = constant_code I32 v; front = k; back = short_u32 (length bs) ++ (bs ++ []); whole = refl; front_spells = c.spelled;
+        first = constant_code I32 v;
+        front = k;
+        back = short_u32 (length bs) ++ (bs ++ []);
+        whole = refl;
+        front_spells = c.spelled;
         back_spells = record {
-          first = length bs; front = short_u32 (length bs); back = bs ++ []; whole = refl; front_spells = u32_made (length bs) few;
+          first = length bs;
+          front = short_u32 (length bs);
+          back = bs ++ [];
+          whole = refl;
+          front_spells = u32_made (length bs) few;
           back_spells = record { first = bs; front = bs; back = []; whole = refl; front_spells = (refl, refl); back_spells = (refl, refl) };
         };
       };
     })
     (omega (
       arith,
-      length-append (short_u32 0) (k ++ (short_u32 (length bs) ++ (bs ++ []))), length-append k (short_u32 (length bs) ++ (bs ++ [])), length-append (short_u32 (length bs)) (bs ++ []), length-append bs no_bytes,
-      u32_few 0, u32_few (length bs), c.size,
+      length-append (short_u32 0) (k ++ (short_u32 (length bs) ++ (bs ++ []))),
+      length-append k (short_u32 (length bs) ++ (bs ++ [])),
+      length-append (short_u32 (length bs)) (bs ++ []),
+      length-append bs no_bytes,
+      u32_few 0,
+      u32_few (length bs),
+      c.size,
     ))
     (small_append (0 ∷ k) (behind_size bs) (omega arith, c.small) (small_sized bs h))
 
@@ -284,13 +369,25 @@ segment_written v bs lt few h =
 limits_made : (most min : ℕ) (max : Option ℕ) → most < 2 ^ 32 → min ≤ most → ForSome max (λ n. n < 2 ^ 32) → (limits most).spells (written_limits (record { min = min; max = max })) (record { min = min; max = max })
 unfolding limits limits_from byte
 limits_made most min None small le lt = record {
-  first = false; front = 0 ∷ []; back = short_u32 min ++ []; whole = refl; front_spells = record { sign = 0; spelled = refl; meant = refl };
+  first = false;
+  front = 0 ∷ [];
+  back = short_u32 min ++ [];
+  whole = refl;
+  front_spells = record { sign = 0; spelled = refl; meant = refl };
   back_spells = record { first = min; front = short_u32 min; back = []; whole = refl; front_spells = record { sign = min; spelled = u32_made min (omega arith); meant = rw (le-leb min most le) refl }; back_spells = (refl, refl) };
 }
 limits_made most min (Some n) small le lt = record {
-  first = true; front = 1 ∷ []; back = short_u32 min ++ short_u32 n; whole = refl; front_spells = record { sign = 1; spelled = refl; meant = refl };
+  first = true;
+  front = 1 ∷ [];
+  back = short_u32 min ++ short_u32 n;
+  whole = refl;
+  front_spells = record { sign = 1; spelled = refl; meant = refl };
   back_spells = record {
-    first = min; front = short_u32 min; back = short_u32 n; whole = refl; front_spells = record { sign = min; spelled = u32_made min (omega arith); meant = rw (le-leb min most le) refl };
+    first = min;
+    front = short_u32 min;
+    back = short_u32 n;
+    whole = refl;
+    front_spells = record { sign = min; spelled = u32_made min (omega arith); meant = rw (le-leb min most le) refl };
     back_spells = record { first = n; front = short_u32 n; back = []; whole = sym (append-nil (short_u32 n)); front_spells = u32_made n (lt n refl); back_spells = (refl, refl) };
   };
 }
@@ -327,9 +424,16 @@ locals_made (t ∷ ls) before le =
     let same : (before ++ t ∷ []) ++ ls ≡ before ++ (t ∷ ls) = append_assoc before (t ∷ []) ls in
     let room : 1 ≤ 10000 - length before = omega arith in
     record {
-      first = before ++ t ∷ []; front = one_local t; back = flat_map one_local ls; whole = refl;
+      first = before ++ t ∷ [];
+      front = one_local t;
+      back = flat_map one_local ls;
+      whole = refl;
       front_spells = record {
-        first = 1; front = short_u32 1; back = written_type t; whole = refl; front_spells = record { sign = 1; spelled = u32_made 1 (omega arith); meant = rw (le-leb 1 (10000 - length before) room) refl };
+        first = 1;
+        front = short_u32 1;
+        back = written_type t;
+        whole = refl;
+        front_spells = record { sign = 1; spelled = u32_made 1 (omega arith); meant = rw (le-leb 1 (10000 - length before) room) refl };
         back_spells = record { first = t; front = written_type t; back = []; whole = refl; front_spells = type_made t; back_spells = (refl, refl) };
       };
       back_spells = subst (λ (x : List ValType). (runs (length ls) (before ++ t ∷ [])).spells (flat_map one_local ls) x) same rest;
@@ -349,9 +453,17 @@ body_text f = short_u32 (length f.locals) ++ (flat_map one_local f.locals ++ (wr
 body_made : (f : Func) → length f.locals ≤ 10000 → IsClosedCode f.code → AllByRecursion IsSound f.code → (body f.ftype).spells (body_text f) f
 unfolding body
 body_made f le closed h = record {
-  first = length f.locals; front = short_u32 (length f.locals); back = flat_map one_local f.locals ++ (written_code f.code ++ []); whole = refl; front_spells = u32_made (length f.locals) (omega arith);
+  first = length f.locals;
+  front = short_u32 (length f.locals);
+  back = flat_map one_local f.locals ++ (written_code f.code ++ []);
+  whole = refl;
+  front_spells = u32_made (length f.locals) (omega arith);
   back_spells = record {
-    first = f.locals; front = flat_map one_local f.locals; back = written_code f.code ++ []; whole = refl; front_spells = locals_made f.locals [] (omega arith);
+    first = f.locals;
+    front = flat_map one_local f.locals;
+    back = written_code f.code ++ [];
+    whole = refl;
+    front_spells = locals_made f.locals [] (omega arith);
     back_spells = record { first = f.code; front = written_code f.code; back = []; whole = refl; front_spells = code_made f.code closed h; back_spells = (refl, refl) };
   };
 }
@@ -365,8 +477,13 @@ unfolding func
 func_written f le closed h few =
     let t : List ℕ = body_text f in
     let size : length t ≤ 5 + (6 * length f.locals + code_cost f.code) = omega (
-      arith, length-append (short_u32 (length f.locals)) (flat_map one_local f.locals ++ (written_code f.code ++ [])), length-append (flat_map one_local f.locals) (written_code f.code ++ []), length-append (written_code f.code) no_bytes,
-      u32_few (length f.locals), locals_few f.locals, code_few f.code h,
+      arith,
+      length-append (short_u32 (length f.locals)) (flat_map one_local f.locals ++ (written_code f.code ++ [])),
+      length-append (flat_map one_local f.locals) (written_code f.code ++ []),
+      length-append (written_code f.code) no_bytes,
+      u32_few (length f.locals),
+      locals_few f.locals,
+      code_few f.code h,
     ) in
     by_text (func f.ftype) written_func (func_short f.ftype) (short_u32 (length t) ++ t) f (func_cost f)
     (record { first = length t; front = short_u32 (length t); back = t; whole = refl; front_spells = u32_made (length t) (omega arith); back_spells = (body_made f le closed h, refl) })

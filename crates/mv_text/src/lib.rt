@@ -10,7 +10,6 @@ mod tests;
 mod text;
 mod unended;
 
-pub use draft::Draft;
 pub use laws::a_text_is_one_module_or_faulty;
 pub use mv_statements::{TextFault, TextKind};
-pub use text::assemble_parts;
+pub use text::assemble;

@@ -2,6 +2,7 @@
 
 use super::*;
 use mv_calls::Or;
+use mv_writer::write_module;
 use std::alloc::Global;
 use std::test::Fail;
 
@@ -53,7 +54,7 @@ fn comes(alloc: Global, row: &str) -> Result<bool, Fail> {
         return Ok(false);
     };
     let text = text_of(alloc, lines)?;
-    match assemble_parts(alloc, text.as_slice()) {
+    match assemble(alloc, text.as_slice()) {
         Err(Or::Fault(found)) => Ok(format!(in alloc; "{found}")?.as_str() == fault),
         _ => Ok(false),
     }
@@ -101,22 +102,36 @@ fn every_directive_is_read(rt: HostRuntime) -> Result<(), Fail> {
     let Some((text, _)) = WHOLE.split_once("endfunc_is_not_here") else {
         return Ok(());
     };
-    let parts = match assemble_parts(alloc, text.as_bytes()) {
-        Ok(parts) => parts,
-        Err(_) => Draft::new(alloc),
-    };
-    assert_eq!(rt; parts.types.len(), 2);
-    assert_eq!(rt; parts.imports.len(), 1);
-    assert_eq!(rt; parts.imports[0].name.slice(), b"a;;b".as_slice());
-    assert_eq!(rt; parts.funcs.len(), 1);
-    assert_eq!(rt; parts.funcs[0].locals.slice().len(), 2);
-    assert_eq!(rt; parts.funcs[0].code.slice().len(), 11);
-    assert_eq!(rt; parts.globals.len(), 1);
-    assert_eq!(rt; parts.exports.len(), 1);
-    assert_eq!(rt; parts.start, Some(1));
-    assert_eq!(rt; parts.elements.len(), 1);
-    assert_eq!(rt; parts.elements[0].funcs.slice(), [1, 0, 1].as_slice());
-    assert_eq!(rt; parts.segments.len(), 1);
-    assert_eq!(rt; parts.segments[0].bytes.slice(), b"\0;; \"".as_slice());
+    let module = assemble(alloc, text.as_bytes())?;
+    assert_eq!(rt; module.types.slice().len(), 2);
+    assert_eq!(rt; module.imports.slice().len(), 1);
+    assert_eq!(rt; module.imports.slice()[0].name.slice(), b"a;;b".as_slice());
+    assert_eq!(rt; module.funcs.slice().len(), 1);
+    assert_eq!(rt; module.funcs.slice()[0].locals.slice().len(), 2);
+    assert_eq!(rt; module.funcs.slice()[0].code.slice().len(), 11);
+    assert_eq!(rt; module.globals.slice().len(), 1);
+    assert_eq!(rt; module.exports.slice().len(), 1);
+    assert_eq!(rt; module.start, Some(1));
+    assert_eq!(rt; module.elements.slice().len(), 1);
+    assert_eq!(rt;
+        module.elements.slice()[0].funcs.slice(),
+        [1, 0, 1].as_slice()
+    );
+    assert_eq!(rt; module.segments.slice().len(), 1);
+    assert_eq!(rt;
+        module.segments.slice()[0].bytes.slice(),
+        b"\0;; \"".as_slice()
+    );
+    Ok(())
+}
+
+#[test]
+fn one_page_is_thirteen_bytes(rt: HostRuntime) -> Result<(), Fail> {
+    let alloc = rt.alloc();
+    let module = assemble(alloc, b"memory 1\n")?;
+    assert_eq!(rt;
+        write_module(alloc, &module)?.as_slice(),
+        b"\0asm\x01\0\0\0\x05\x03\x01\0\x01".as_slice()
+    );
     Ok(())
 }

@@ -1,7 +1,8 @@
-//! Texts: line by line, to the parts of a module or the first fault.
+//! Texts: line by line, to a module or the first fault.
 ghost use Rattle.std.specs.Prelude.{◌≡◌, ◌≤◌, ◌^◌, ◌↔◌, Err, IfErr, IfOk, Ok, length};
 ghost use Rattle.mv_calls.specs.Or.{IfFault, IsFault};
 ghost use Rattle.mv_scan.specs.Lines.{lines_of};
+ghost use Rattle.mv_syntax.specs.Modules.{HasSpelling};
 ghost use Rattle.mv_syntax.specs.Sections.{Parts};
 ghost use Rattle.mv_text.specs.Comments.{words_on};
 ghost use Rattle.mv_text.specs.Assembly.{assembled, assembled_from, finished, nothing, step};
@@ -13,6 +14,7 @@ use crate::state::{State, step};
 use mv_calls::Or;
 use mv_scan::{first_line, split_words};
 use mv_statements::{TextFault, TextKind};
+use mv_syntax::{Elements, Exports, FuncTypes, Funcs, Globals, Imports, Module, Segments};
 use std::alloc::Global;
 
 /// The most bytes of a text.
@@ -81,14 +83,53 @@ fn read_text(alloc: Global, text: &[u8]) -> Result<Draft, Or<TextFault>>
     read_lines(alloc, text)
 }
 
-/// The parts of the module that an assembler text spells (docs/FORMATS.md, "Assembler text"), or the first fault: that of
-/// the first faulty line, and on it the first kind in the order of the table. The other error is want of memory.
-pub fn assemble_parts(alloc: Global, text: &[u8]) -> Result<Draft, Or<TextFault>>
-    ensures parts { IfOk result (λ parts. assembled text.now ≡ Ok parts) }
+/// The module of these parts.
+fn module_of(parts: Draft) -> Module
+    requires { HasSpelling parts }
+    ensures { result ≡ parts }
+{
+    let Draft {
+        types,
+        imports,
+        funcs,
+        table,
+        memory,
+        globals,
+        exports,
+        start,
+        elements,
+        segments,
+    } = parts;
+    Module {
+        types: FuncTypes::from_vec(types),
+        imports: Imports::from_vec(imports),
+        funcs: Funcs::from_vec(funcs),
+        table,
+        memory,
+        globals: Globals::from_vec(globals),
+        exports: Exports::from_vec(exports),
+        start,
+        elements: Elements::from_vec(elements),
+        segments: Segments::from_vec(segments),
+    }
+}
+
+fn read_module(alloc: Global, text: &[u8]) -> Result<Module, Or<TextFault>>
+    ensures module { IfOk result (λ m. assembled text.now ≡ Ok m) }
     ensures fault { IfFault result (λ fault. assembled text.now ≡ Err fault) }
-    ensures spelled { IfOk result (λ parts. (p : Parts) → Spells text.now p ↔ (p ≡ parts)) }
+{
+    let parts = read_text(alloc, text)?;
+    Ok(module_of(parts))
+}
+
+/// The module that an assembler text spells (docs/FORMATS.md, "Assembler text"), or the first fault: that of the first faulty
+/// line, and on it the first kind in the order of the table. The other error is want of memory.
+pub fn assemble(alloc: Global, text: &[u8]) -> Result<Module, Or<TextFault>>
+    ensures module { IfOk result (λ m. assembled text.now ≡ Ok m) }
+    ensures fault { IfFault result (λ fault. assembled text.now ≡ Err fault) }
+    ensures spelled { IfOk result (λ m. (p : Parts) → Spells text.now p ↔ (p ≡ m)) }
     ensures refused { IsFault result → (p : Parts) → Spells text.now p → ⊥ }
     ensures first { IfFault result (λ fault. IsFirstFaultyLine text.now fault.line) }
 {
-    read_text(alloc, text)
+    read_module(alloc, text)
 }
