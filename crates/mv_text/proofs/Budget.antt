@@ -1,12 +1,10 @@
 -- The parts that a text spells have a spelling of their own: each is spelled by a writer, and all of them take few bytes.
-use Rattle.std.proofs.Common.{◌≡◌, ℕ, zero, suc, ◌+◌, ◌-◌, ◌*◌, ◌^◌, ◌≤◌, ◌<◌, Bool, true, false, List, [], ◌∷◌, ◌++◌, length, map, Option, Some, None, refl, sym, ap, subst, ◌∙◌, append_assoc, arith}
+use Rattle.std.proofs.Common.{◌≡◌, ℕ, ◌+◌, ◌*◌, ◌^◌, ◌≤◌, ◌<◌, List, [], ◌∷◌, ◌++◌, length, map, Option, Some, None, refl, sym, ap, subst, ◌∙◌, append_assoc, arith}
 use Rattle.std.specs.Prelude.{flat_map}
 use Rattle.std.specs.List.{AllByRecursion}
 use Rattle.std.specs.Option.{ForSome}
 use Rattle.std.proofs.lemmas.List.{append-nil, length-append, length-map}
-use Rattle.mv_syntax.specs.declared.ops.ValType.{ValType}
 use Rattle.mv_syntax.specs.declared.ops.ValType.TheVariants.{I32}
-use Rattle.mv_syntax.specs.declared.types.FuncType.{FuncType}
 use Rattle.mv_syntax.specs.declared.types.Limits.{Limits}
 use Rattle.mv_syntax.specs.declared.instr.Instr.{Instr}
 use Rattle.mv_syntax.specs.declared.instr.Instr.TheVariants.{End}
@@ -21,9 +19,9 @@ use Rattle.mv_syntax.specs.Numbers.{u32}
 use Rattle.mv_syntax.specs.Parts.{import_, table, memory, global, export, element, segment, func}
 use Rattle.mv_syntax.specs.Sections.{Parts, nothing_yet}
 use Rattle.mv_syntax.specs.Modules.{HasSpelling}
-use Rattle.mv_writer.specs.Written.{short_u32, written_vector, written_option, behind_size, written_func_type, written_limits, written_table, written_import, written_global, written_export, written_element, written_segment, written_func, written_section, written_list, written_one, written_preamble, written}
+use Rattle.mv_writer.specs.Written.{short_u32, written_vector, written_func_type, written_limits, written_table, written_import, written_global, written_export, written_element, written_segment, written_func, written_section, written_list, written_one, written_preamble, written}
 use Rattle.mv_writer.specs.ShortForms.{u32_made, u32_few}
-use Rattle.mv_writer.specs.Fitting.{Fit, FitsList, FitsOption, FitsBodies}
+use Rattle.mv_writer.specs.Fitting.{FitsList, FitsOption}
 use Rattle.mv_writer.specs.Placing.{FitsParts, fits_spelled}
 use Rattle.mv_scan.specs.declared.token.Token.{Token}
 use Rattle.mv_scan.specs.Lines.{lines_of}
@@ -31,11 +29,11 @@ use Rattle.mv_statements.specs.declared.statement.Statement.{Statement}
 use Rattle.mv_statements.specs.declared.statement.Statement.TheVariants as statements
 use Rattle.mv_statements.specs.Statements.{Spells as SpellsStatement, constant_code}
 use Rattle.mv_text.specs.Assembly.{added, with_function}
-use Rattle.mv_text.specs.Grammar.{sentences, SpellsCode, SpellsFunction, Item, Directive, Defines, IsPart, SpellsDirective, SpellsItem, with_item, SpellsItems, Spells}
+use Rattle.mv_text.specs.Grammar.{sentences, SpellsCode, SpellsFunction, Item, Directive, Defines, SpellsItem, with_item, SpellsItems, Spells}
 use Rattle.mv_text.proofs.Small.{Small, small_append, small_u32, small_sized, small_bytes}
-use Rattle.mv_text.proofs.Encoded.{Encodes, wider, AreU32, vector_made, small_many, few_many, IsSound, label_count}
+use Rattle.mv_text.proofs.Encoded.{AreU32, vector_made, small_many, few_many, IsSound}
 use Rattle.mv_text.proofs.Items.{code_cost, func_cost, func_written, signature_written, import_written, export_written, global_written, element_written, segment_written, table_written, memory_written, limits_few, limits_small}
-use Rattle.mv_text.proofs.Facts.{cost, weight, AreGood, IsFit, spelled_fits}
+use Rattle.mv_text.proofs.Facts.{cost, IsFit, spelled_fits}
 use Rattle.mv_text.proofs.Costs.{AllGood, total_cost, text_total}
 
 -- ## Lists

@@ -1,5 +1,5 @@
 -- The words of a text cost no more than it has bytes, and their texts are bytes.
-use Rattle.std.proofs.Common.{◌≡◌, ℕ, zero, suc, ◌+◌, ◌-◌, ◌*◌, ◌≤◌, ◌<◌, Bool, true, false, cond, eqb, leb, ◌&&◌, List, [], ◌∷◌, ◌++◌, length, Option, Some, None, ◌⊎◌, inl, inr, refl, sym, ap, subst, ◌∙◌, arith}
+use Rattle.std.proofs.Common.{◌≡◌, ℕ, suc, ◌+◌, ◌-◌, ◌≤◌, ◌<◌, Bool, true, false, cond, eqb, leb, ◌&&◌, List, [], ◌∷◌, ◌++◌, length, Some, None, inl, inr, refl, ap, arith}
 use Rattle.std.specs.List.{AllByRecursion}
 use Rattle.std.proofs.lemmas.Bool.{leb-true}
 use Rattle.std.proofs.lemmas.List.{length-append}
@@ -7,7 +7,7 @@ use Rattle.mv_scan.specs.declared.token.Token.{Token}
 use Rattle.mv_scan.specs.declared.token.Token.TheVariants.{Plain, Quoted, Glued}
 use Rattle.mv_scan.specs.Words.{hex_value, escaped}
 use Rattle.mv_scan.specs.Lines.{lines_of, onto_line}
-use Rattle.mv_scan.specs.WordGrammar.{IsItself, IsEscape, IsHexadecimal, SpellsByte, SpellsText, IsPlainWord, SpellsToken, SpellsWords}
+use Rattle.mv_scan.specs.WordGrammar.{SpellsByte, SpellsText, IsPlainWord, SpellsToken, SpellsWords}
 use Rattle.mv_scan.proofs.WordFound.{words_found}
 use Rattle.mv_text.specs.declared.comments.Quoting.{Quoting}
 use Rattle.mv_text.specs.declared.comments.Quoting.TheVariants.{Gap}

@@ -1,5 +1,5 @@
 -- Each instruction that has sound numbers is spelled by a writer, in few bytes.
-use Rattle.std.proofs.Common.{◌≡◌, ℕ, zero, suc, ◌+◌, ◌*◌, ◌%◌, ◌^◌, ◌≤◌, ◌<◌, Bool, true, false, List, [], ◌∷◌, ◌++◌, length, Option, Some, None, Result, Ok, inl, inr, refl, sym, ap, subst, ◌∙◌, arith}
+use Rattle.std.proofs.Common.{◌≡◌, ℕ, ◌+◌, ◌*◌, ◌%◌, ◌^◌, ◌≤◌, ◌<◌, Bool, true, false, List, [], ◌∷◌, ◌++◌, length, Option, Some, None, Ok, inl, inr, refl, sym, ap, subst, arith}
 use Rattle.std.specs.Prelude.{flat_map}
 use Rattle.std.specs.List.{AllByRecursion}
 use Rattle.std.proofs.lemmas.List.{append-nil, length-append}
@@ -18,12 +18,11 @@ use Rattle.mv_syntax.specs.declared.ops.Binary.TheVariants as binary
 use Rattle.mv_syntax.specs.Kept.{IsLoad, IsWidth}
 use Rattle.mv_syntax.specs.Types.{bit_width, vector}
 use Rattle.mv_syntax.specs.Form.{Form}
-use Rattle.mv_syntax.specs.FormLaws.{Joined}
-use Rattle.mv_syntax.specs.Forms.{give, ◌>>=◌, byte, means, many}
+use Rattle.mv_syntax.specs.Forms.{byte, many}
 use Rattle.mv_syntax.specs.Numbers.{u32, s32, s64}
 use Rattle.mv_syntax.specs.Instructions.{Shape, Alone, Blocks, Indexed, Labels, Indirect, Access, Reserved, Const32, Const64, block_type, zero_byte, immediates, shape_of, instruction, operator_of, access_of, other_of, is_float}
 use Rattle.mv_writer.specs.Opcodes.{opcode}
-use Rattle.mv_writer.specs.Written.{short_u32, short_s32, short_s64, short_signed, written_vector, written_block, written_immediates, written_instruction}
+use Rattle.mv_writer.specs.Written.{short_u32, short_s32, short_s64, written_vector, written_block, written_immediates, written_instruction}
 use Rattle.mv_writer.specs.ShortForms.{u32_made, u32_few}
 use Rattle.mv_writer.specs.ShortSigned.{signed_made}
 use Rattle.mv_text.proofs.Small.{Small, small_append, small_u32, small_s32, small_s64, few_s32, few_s64}

@@ -1,18 +1,15 @@
 -- The numbers of a statement that words spell fit, and it is no larger than they are.
-use Rattle.std.proofs.Common.{◌≡◌, ℕ, zero, suc, ◌+◌, ◌-◌, ◌*◌, ◌^◌, ◌≤◌, ◌<◌, Bool, true, false, cond, eqb, leb, List, [], ◌∷◌, ◌++◌, length, Option, Some, None, Result, Ok, Err, ◌⊎◌, inl, inr, refl, sym, ap, subst, ◌∙◌, arith}
-use Rattle.std.specs.Prelude.{◌==◌, nat_le, if◌then◌else◌, codes}
+use Rattle.std.proofs.Common.{◌≡◌, ℕ, zero, suc, ◌+◌, ◌-◌, ◌^◌, ◌≤◌, ◌<◌, Bool, true, false, cond, eqb, leb, List, [], ◌∷◌, ◌++◌, length, Option, Some, None, Result, Ok, Err, refl, sym, ap, subst, ◌∙◌, arith}
+use Rattle.std.specs.Prelude.{codes}
 use Rattle.std.specs.List.{AllByRecursion}
 use Rattle.std.specs.Option.{ok_or, ForSome}
 use Rattle.std.specs.Str.{is_utf8}
-use Rattle.std.proofs.lemmas.Bool.{leb-true, eqb-true, eqb-false}
+use Rattle.std.proofs.lemmas.Bool.{leb-true, eqb-false}
 use Rattle.mv_syntax.specs.declared.ops.ValType.{ValType}
 use Rattle.mv_syntax.specs.declared.ops.ValType.TheVariants.{I32, I64}
 use Rattle.mv_syntax.specs.declared.types.Limits.{Limits}
 use Rattle.mv_syntax.specs.declared.instr.Instr.{Instr}
 use Rattle.mv_syntax.specs.declared.instr.Instr.TheVariants as instr
-use Rattle.mv_syntax.specs.declared.module.Global.{Global as GlobalPart}
-use Rattle.mv_syntax.specs.declared.module.Element.{Element as ElementPart}
-use Rattle.mv_syntax.specs.declared.module.Segment.{Segment as SegmentPart}
 use Rattle.mv_syntax.specs.Types.{bit_width}
 use Rattle.mv_syntax.specs.Kept.{IsSpellable}
 use Rattle.mv_scan.specs.declared.token.Token.{Token}
@@ -28,7 +25,7 @@ use Rattle.mv_statements.specs.declared.statement.Statement.TheVariants as state
 use Rattle.mv_statements.specs.Forms.{give, ◌>>=◌, choose, many, maybe, last}
 use Rattle.mv_statements.specs.FormLaws.{OneWord}
 use Rattle.mv_statements.specs.Numerals.{numeral, at_most, negated, negative, constant}
-use Rattle.mv_statements.specs.Words.{number_in, number_up_to, number, index, constant_word, val_type, kind_in, kind, text_in, text, name_of, name_in, name}
+use Rattle.mv_statements.specs.Words.{number_in, number_up_to, number, index, constant_word, val_type, kind_in, kind, text_in, text, name_in, name}
 use Rattle.mv_statements.specs.Statements.{immediates, signature, import_, func, limits, constant_code, global, export, start, element, segment, instruction, behind, statement, IsHead, Spells}
 use Rattle.mv_text.proofs.Small.{Small}
 use Rattle.mv_text.proofs.Encoded.{AreU32, IsSound, label_count}

@@ -1,12 +1,12 @@
 -- Each part of a module that has sound numbers is spelled by a writer, in few bytes.
-use Rattle.std.proofs.Common.{◌≡◌, ℕ, zero, suc, ◌+◌, ◌*◌, ◌-◌, ◌^◌, ◌≤◌, ◌<◌, Bool, true, false, List, [], ◌∷◌, ◌++◌, length, Option, Some, None, Result, Ok, refl, sym, ap, subst, ◌∙◌, append_assoc, arith}
-use Rattle.std.specs.Prelude.{flat_map, replicate}
+use Rattle.std.proofs.Common.{◌≡◌, ℕ, ◌+◌, ◌*◌, ◌-◌, ◌^◌, ◌≤◌, ◌<◌, Bool, true, false, List, [], ◌∷◌, ◌++◌, length, Option, Some, None, refl, sym, subst, append_assoc, arith}
+use Rattle.std.specs.Prelude.{flat_map}
 use Rattle.std.specs.List.{AllByRecursion}
 use Rattle.std.specs.Option.{ForSome}
 use Rattle.std.specs.Str.{is_utf8}
 use Rattle.std.proofs.lemmas.Bool.{le-leb}
 use Rattle.std.proofs.lemmas.List.{append-nil, length-append}
-use Rattle.mv_syntax.specs.declared.fault.ReadKind.TheVariants.{Limit, LaterFeature, Kind}
+use Rattle.mv_syntax.specs.declared.fault.ReadKind.TheVariants.{LaterFeature}
 use Rattle.mv_syntax.specs.declared.ops.ValType.{ValType}
 use Rattle.mv_syntax.specs.declared.ops.ValType.TheVariants.{I32, I64}
 use Rattle.mv_syntax.specs.declared.types.FuncType.{FuncType}
@@ -20,16 +20,16 @@ use Rattle.mv_syntax.specs.declared.module.Export.{Export}
 use Rattle.mv_syntax.specs.declared.module.Element.{Element}
 use Rattle.mv_syntax.specs.declared.module.Segment.{Segment}
 use Rattle.mv_syntax.specs.Tree.{IsClosedCode, plain, done}
-use Rattle.mv_syntax.specs.Types.{bit_width, vector, up_to, only, val_type, func_type, limits, limits_from}
+use Rattle.mv_syntax.specs.Types.{bit_width, only, val_type, func_type, limits, limits_from}
 use Rattle.mv_syntax.specs.Form.{Form}
 use Rattle.mv_syntax.specs.Forms.{byte, bytes, means, many, at_most_one}
 use Rattle.mv_syntax.specs.Numbers.{u32, name}
 use Rattle.mv_syntax.specs.Instructions.{instruction}
 use Rattle.mv_syntax.specs.Code.{code}
 use Rattle.mv_syntax.specs.Parts.{is_mutable, import_, table, memory, global, export, element, segment, run, runs, body, func}
-use Rattle.mv_writer.specs.Written.{short_u32, written_vector, behind_size, written_option, count_of, type_code, written_type, written_func_type, flag, written_limits, written_table, written_instruction, written_code, written_import, written_global, written_export, written_element, written_segment, runs_of, written_run, written_body, written_func}
+use Rattle.mv_writer.specs.Written.{short_u32, written_vector, behind_size, written_option, count_of, written_type, written_func_type, flag, written_limits, written_table, written_instruction, written_code, written_import, written_global, written_export, written_element, written_segment, runs_of, written_run, written_body, written_func}
 use Rattle.mv_writer.specs.ShortForms.{Shortens, u32_made, u32_few, func_type_short}
-use Rattle.mv_writer.specs.ShortParts.{name_short, import_short, global_short, export_short, element_short, segment_short}
+use Rattle.mv_writer.specs.ShortParts.{import_short, global_short, export_short, element_short, segment_short}
 use Rattle.mv_writer.specs.ShortRuns.{func_short}
 use Rattle.mv_statements.specs.Statements.{constant_code}
 use Rattle.mv_text.proofs.Small.{Small, small_append, small_u32, small_sized}
