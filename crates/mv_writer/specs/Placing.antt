@@ -282,10 +282,10 @@ placed_parts p h =
     let s10 = placed_bodies 10 (with_elements p p.elements) (with_funcs p) (types_of p.funcs) p.funcs _ (omega arith) (λ l. refl) (λ l. refl) (λ l fit. bodies_made (types_of p.funcs) (λ x. with_funcs p x 10) p.funcs fit) h.bodies s9 in
     placed_list 11 (with_funcs p p.funcs) (with_segments p) segment written_segment (p.segments) _ (omega arith) (λ l. refl) (λ l. refl) (λ l xs text s. list_made (vector segment) (λ x. with_segments p x 11) text xs s) h.segments s10
 
--- the shortest spelling of what has one
-pub written_spells : (p : Parts) → HasSpelling p → IsSpelled (written p) p
-written_spells p h =
-    let a = placed_parts p (spelled_fits p h.0 h.2) in
+-- the shortest spelling of parts that fit
+pub fits_spelled : (p : Parts) → FitsParts p → IsSpelled (written p) p
+fits_spelled p h =
+    let a = placed_parts p h in
     record {
       front = written_preamble;
       back = a.back;
@@ -297,3 +297,7 @@ written_spells p h =
       bodies = sym (length-map p.funcs (λ (f : Func). f.ftype));
       parts_is = refl;
     }
+
+-- the shortest spelling of what has one
+pub written_spells : (p : Parts) → HasSpelling p → IsSpelled (written p) p
+written_spells p h = fits_spelled p (spelled_fits p h.0 h.2)

@@ -1,0 +1,5 @@
+pub mod Digits
+pub mod Loops
+pub mod Named
+pub mod FoundNames
+pub mod Spelled

@@ -1,0 +1,9 @@
+pub mod Contents
+pub mod Assembles
+pub mod FirstFault
+pub mod Small
+pub mod Encoded
+pub mod Items
+pub mod Facts
+pub mod Costs
+pub mod Budget
