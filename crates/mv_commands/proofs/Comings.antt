@@ -30,7 +30,7 @@ use Rattle.mv_inspect.specs.declared.listing.Listed.{Listed}
 use Rattle.mv_inspect.specs.declared.listing.Listed.TheVariants as listed
 use Rattle.mv_commands.specs.Loading.{audit_ending_by, show_ending_by}
 use Rattle.mv_words.proofs.OneReading.{one_reading}
-use Rattle.mv_commands.specs.Causes.{Known, IsOnOneThread, IsKept, IsLegal, Keeps, KeepsFiles, RanFor, RunOf, Seen, NoGuest, CauseOf, HasCause, IsBegun, IsFeasible, IsRun, log_path}
+use Rattle.mv_commands.specs.Causes.{AssemblyOf, WroteAlone, Known, IsOnOneThread, IsKept, IsLegal, Keeps, KeepsFiles, RanFor, RunOf, Seen, NoGuest, CauseOf, HasCause, IsBegun, IsFeasible, IsRun, output_of}
 use Rattle.mv_commands.specs.Keeping.{SaysHow}
 use Rattle.mv_commands.specs.Schedules.{schedule_of}
 use Rattle.mv_commands.specs.declared.ending.ScheduleFault.{ScheduleFault}
@@ -88,7 +88,7 @@ pub same_cause : (command asked : Command) (before after : Seen) (log : Log) (en
 same_cause command asked before after log ending is cause = subst (λ (x : Command). CauseOf x before after log ending) (sym is) cause
 
 -- the run's log is kept, or isn't
-pub ran_cause : (command : Command) (before mid after : Seen) (log other : Log) (h : How) (ending : Ending) → other ≡ log → RunOf command before mid log h → SaysHow h ending → Keeps (log_path command) mid log after ending → CauseOf command before after other ending
+pub ran_cause : (command : Command) (before mid after : Seen) (log other : Log) (h : How) (ending : Ending) → other ≡ log → RunOf command before mid log h → SaysHow h ending → Keeps (output_of command) mid log after ending → CauseOf command before after other ending
 ran_cause command before mid after log other h (ending_is.Ran by) same run says keeps = subst (λ (l : Log). CauseOf command before after l (ending_is.Ran by)) (sym same) (mid, subst (λ (x : How). RunOf command before mid log x) (sym says) run, keeps)
 ran_cause command before mid after log other h (ending_is.LogFailed path by) same run says keeps = subst (λ (l : Log). CauseOf command before after l (ending_is.LogFailed path by)) (sym same) (mid, subst (λ (x : How). RunOf command before mid log x) (sym says) run, keeps)
 ran_cause command before mid after log other h (ending_is.LogNotMade by) same run says keeps = subst (λ (l : Log). CauseOf command before after l (ending_is.LogNotMade by)) (sym same) (mid, subst (λ (x : How). RunOf command before mid log x) (sym says) run, keeps)
@@ -99,6 +99,8 @@ ran_cause command before mid after log other h (ending_is.NoFile path) same run 
 ran_cause command before mid after log other h (ending_is.Found path finding) same run says keeps = absurd says
 ran_cause command before mid after log other h (ending_is.Audited illegal) same run says keeps = absurd says
 ran_cause command before mid after log other h (ending_is.Shown entries) same run says keeps = absurd says
+ran_cause command before mid after log other h (ending_is.Assembled bytes) same run says keeps = absurd says
+ran_cause command before mid after log other h (ending_is.NotWritten path) same run says keeps = absurd says
 
 -- a command that judges one file
 pub judged_cause : (Says : Meaning) (command : Command) (path : List ℕ) (before after : Seen) (log : Log) (found : Judged) → slice_get (files_of command) 0 ≡ Some path → ((text : List ℕ) (finding : Finding) → Says text finding → FoundAt command before.files 0 text finding)
@@ -166,6 +168,7 @@ feasible words (ask.Check path) says = tt
 feasible words (ask.Rules forward) says = tt
 feasible words (ask.Audit log old updates) says = in_threes updates says.asks.3
 feasible words (ask.Show log) says = tt
+feasible words (ask.Assemble from to) says = tt
 feasible words ask.Help says = tt
 feasible words ask.Version says = tt
 
@@ -181,6 +184,8 @@ cause_by Is words command before after log (ending_is.LogFailed path h) is says 
 cause_by Is words command before after log (ending_is.LogNotMade h) is says cause = (command, is, says, cause)
 cause_by Is words command before after log (ending_is.Audited illegal) is says cause = (command, is, says, cause)
 cause_by Is words command before after log (ending_is.Shown entries) is says cause = (command, is, says, cause)
+cause_by Is words command before after log (ending_is.Assembled bytes) is says cause = (command, is, says, cause)
+cause_by Is words command before after log (ending_is.NotWritten path) is says cause = (command, is, says, cause)
 
 -- words that ask for a service ask for nothing on one thread
 pub no_service : (words : List (List ℕ)) (service : Command) → (IsOnOneThread service → ⊥) → Says words service → (command : Command) → IsOnOneThread command → Says words command → ⊥
@@ -189,6 +194,19 @@ no_service words service other says command is asks = other (subst IsOnOneThread
 pub refused_service : (words : List (List ℕ)) (service : Command) (before after : Seen) (log : Log) (ending : Ending) → (IsOnOneThread service → ⊥) → Says words service → ending ≡ ending_is.BadWords → NoGuest before after log → HasCause IsOnOneThread words before after log ending
 refused_service words service before after log ending other says is none =
     subst (λ (e : Ending). HasCause IsOnOneThread words before after log e) (sym is) (no_service words service other says, none)
+
+-- a command that assembles names the paths of its text and its module
+pub assembly_is : (command : Command) (P : List ℕ → List ℕ → Type 0) → AssemblyOf command P → (from : List ℕ) × (to : List ℕ) × (command ≡ ask.Assemble from to) × P from to
+assembly_is (ask.Assemble from to) P holds = (from, to, refl, holds)
+assembly_is (ask.Run old args) P holds = absurd holds
+assembly_is (ask.Rehearse old schedule args ring path) P holds = absurd holds
+assembly_is (ask.Serve old args ring path) P holds = absurd holds
+assembly_is (ask.Check path) P holds = absurd holds
+assembly_is (ask.Rules forward) P holds = absurd holds
+assembly_is (ask.Audit from old updates) P holds = absurd holds
+assembly_is (ask.Show from) P holds = absurd holds
+assembly_is ask.Help P holds = absurd holds
+assembly_is ask.Version P holds = absurd holds
 
 run_legal : (old : List ℕ) (args : List (List ℕ)) (before after : Seen) (began : Began) (log : Log) (h : How) → IsRun old args before after began log h → IsLegal log
 run_legal old args before after began log h ran = inr (ran.legal.first, ap₂ started ran.legal.same_module ran.legal.same_args ∙ ran.legal.started, ran.legal.legal)
@@ -205,6 +223,7 @@ some_run (ask.Check path) before after log h ran = absurd ran
 some_run (ask.Rules forward) before after log h ran = absurd ran
 some_run (ask.Audit record_ old updates) before after log h ran = absurd ran
 some_run (ask.Show record_) before after log h ran = absurd ran
+some_run (ask.Assemble from to) before after log h ran = absurd ran
 some_run ask.Help before after log h ran = absurd ran
 some_run ask.Version before after log h ran = absurd ran
 
@@ -223,6 +242,8 @@ legal_by Is words before after log (ending_is.LogFailed path h) cause = ran_lega
 legal_by Is words before after log (ending_is.LogNotMade h) cause = ran_legal cause.0 before cause.3.0 log h cause.3.1
 legal_by Is words before after log (ending_is.Audited illegal) cause = inl cause.3.1.entries
 legal_by Is words before after log (ending_is.Shown entries) cause = inl cause.3.1.entries
+legal_by Is words before after log (ending_is.Assembled bytes) cause = let a = assembly_is cause.0 _ cause.3 in inl a.3.1.entries
+legal_by Is words before after log (ending_is.NotWritten path) cause = let a = assembly_is cause.0 _ cause.3 in inl a.3.3.entries
 
 -- ## The calls that were done
 
@@ -231,6 +252,9 @@ Did before after log = after.done ≡ told_more before.done (outside log.entries
 
 none_did : (before after : Seen) (log : Log) → NoGuest before after log → Did before after log
 none_did before after log none = none.done ∙ sym (told_more-none before.done) ∙ ap (λ (es : List Entry). told_more before.done (outside es)) (sym none.entries)
+
+wrote_did : (to : List ℕ) (before after : Seen) (log : Log) → WroteAlone to before after log → Did before after log
+wrote_did to before after log wrote = wrote.done ∙ sym (told_more-none before.done) ∙ ap (λ (es : List Entry). told_more before.done (outside es)) (sym wrote.entries)
 
 run_did : (old : List ℕ) (args : List (List ℕ)) (before after : Seen) (began : Began) (log : Log) (h : How) → IsRun old args before after began log h → Did before after log
 run_did old args before after began log h ran = ran.did.done_is ∙ ap (λ (d : Option (List Item)). told_more d (outside log.entries.list)) ran.begins.done
@@ -250,11 +274,13 @@ keeps_done wanted mid log after (ending_is.NoFile other) keeps = absurd keeps
 keeps_done wanted mid log after (ending_is.Found other finding) keeps = absurd keeps
 keeps_done wanted mid log after (ending_is.Audited illegal) keeps = absurd keeps
 keeps_done wanted mid log after (ending_is.Shown entries) keeps = absurd keeps
+keeps_done wanted mid log after (ending_is.Assembled bytes) keeps = absurd keeps
+keeps_done wanted mid log after (ending_is.NotWritten path) keeps = absurd keeps
 
 ran_did : (command : Command) (before after : Seen) (log : Log) (h : How) (ending : Ending) → RanFor command before after log h ending → Did before after log
 ran_did command before after log h ending ran =
     let r = some_run command before ran.0 log h ran.1 in
-    keeps_done (log_path command) ran.0 log after ending ran.2 ∙ run_did r.0 r.1 before ran.0 r.2 log h r.3
+    keeps_done (output_of command) ran.0 log after ending ran.2 ∙ run_did r.0 r.1 before ran.0 r.2 log h r.3
 
 -- whatever the words come to, the calls done are the log's
 pub did_by : (Is : Known) (words : List (List ℕ)) (before after : Seen) (log : Log) (ending : Ending) → HasCause Is words before after log ending → Did before after log
@@ -268,6 +294,8 @@ did_by Is words before after log (ending_is.LogFailed path h) cause = ran_did ca
 did_by Is words before after log (ending_is.LogNotMade h) cause = ran_did cause.0 before after log h (ending_is.LogNotMade h) cause.3
 did_by Is words before after log (ending_is.Audited illegal) cause = none_did before after log cause.3.1
 did_by Is words before after log (ending_is.Shown entries) cause = none_did before after log cause.3.1
+did_by Is words before after log (ending_is.Assembled bytes) cause = let a = assembly_is cause.0 _ cause.3 in wrote_did a.1 before after log a.3.1
+did_by Is words before after log (ending_is.NotWritten path) cause = let a = assembly_is cause.0 _ cause.3 in wrote_did a.1 before after log a.3.3
 
 -- ## The files
 
@@ -275,19 +303,19 @@ unchanged : (words : List (List ℕ)) (told now : Option FileMap) → now ≡ to
 unchanged words None now same = same
 unchanged words (Some files) now same = (files, same, λ path no. refl)
 
-changed : (words : List (List ℕ)) (command : Command) (path : List ℕ) (told now : Option FileMap) → Says words command → log_path command ≡ Some path → ChangesOnly told path now → KeepsFiles words told now
+changed : (words : List (List ℕ)) (command : Command) (path : List ℕ) (told now : Option FileMap) → Says words command → output_of command ≡ Some path → ChangesOnly told path now → KeepsFiles words told now
 changed words command path None None says named others = refl
 changed words command path None (Some files) says named others = absurd others
 changed words command path (Some files) None says named others = absurd others
 changed words command path (Some files) (Some later) says named others = (later, refl, λ other no. others other (λ e. no (command, says, named ∙ ap Some (sym e))))
 
 -- what stands at each path after a run whose log was kept, or wasn't
-kept_files : (words : List (List ℕ)) (command : Command) (wanted : Option (List ℕ)) (mid : Seen) (log : Log) (after : Seen) → Says words command → log_path command ≡ wanted → IsKept wanted mid log after → KeepsFiles words mid.files after.files
+kept_files : (words : List (List ℕ)) (command : Command) (wanted : Option (List ℕ)) (mid : Seen) (log : Log) (after : Seen) → Says words command → output_of command ≡ wanted → IsKept wanted mid log after → KeepsFiles words mid.files after.files
 kept_files words command None mid log after says named kept = unchanged words mid.files after.files (ap (λ (s : Seen). s.files) kept)
 kept_files words command (Some path) mid log after says named kept = changed words command path mid.files after.files says named kept.1.others
 
-keeps_files : (words : List (List ℕ)) (command : Command) (mid : Seen) (log : Log) (after : Seen) (ending : Ending) → Says words command → Keeps (log_path command) mid log after ending → KeepsFiles words mid.files after.files
-keeps_files words command mid log after (ending_is.Ran h) says keeps = kept_files words command (log_path command) mid log after says refl keeps
+keeps_files : (words : List (List ℕ)) (command : Command) (mid : Seen) (log : Log) (after : Seen) (ending : Ending) → Says words command → Keeps (output_of command) mid log after ending → KeepsFiles words mid.files after.files
+keeps_files words command mid log after (ending_is.Ran h) says keeps = kept_files words command (output_of command) mid log after says refl keeps
 keeps_files words command mid log after (ending_is.LogFailed other h) says keeps = changed words command other mid.files after.files says keeps.0 keeps.2
 keeps_files words command mid log after (ending_is.LogNotMade h) says keeps = unchanged words mid.files after.files keeps.2
 keeps_files words command mid log after ending_is.BadWords says keeps = absurd keeps
@@ -297,6 +325,8 @@ keeps_files words command mid log after (ending_is.NoFile other) says keeps = ab
 keeps_files words command mid log after (ending_is.Found other finding) says keeps = absurd keeps
 keeps_files words command mid log after (ending_is.Audited illegal) says keeps = absurd keeps
 keeps_files words command mid log after (ending_is.Shown entries) says keeps = absurd keeps
+keeps_files words command mid log after (ending_is.Assembled bytes) says keeps = absurd keeps
+keeps_files words command mid log after (ending_is.NotWritten path) says keeps = absurd keeps
 
 ran_files : (words : List (List ℕ)) (command : Command) (before after : Seen) (log : Log) (h : How) (ending : Ending) → Says words command → RanFor command before after log h ending → KeepsFiles words before.files after.files
 ran_files words command before after log h ending says ran =
@@ -316,6 +346,8 @@ files_by Is words before after log (ending_is.LogFailed path h) cause = ran_file
 files_by Is words before after log (ending_is.LogNotMade h) cause = ran_files words cause.0 before after log h (ending_is.LogNotMade h) cause.2 cause.3
 files_by Is words before after log (ending_is.Audited illegal) cause = unchanged words _ _ cause.3.1.files
 files_by Is words before after log (ending_is.Shown entries) cause = unchanged words _ _ cause.3.1.files
+files_by Is words before after log (ending_is.Assembled bytes) cause = let a = assembly_is cause.0 _ cause.3 in changed words cause.0 a.1 _ _ cause.2 (ap output_of a.2) a.3.1.others
+files_by Is words before after log (ending_is.NotWritten path) cause = let a = assembly_is cause.0 _ cause.3 in changed words cause.0 a.1 _ _ cause.2 (ap output_of a.2) a.3.3.others
 
 -- ## Logs that are read from files
 

@@ -29,11 +29,14 @@ use Rattle.mv_inspect.specs.Audits.{HasSomeLog, StartsWith}
 use Rattle.mv_inspect.specs.Logs.{HasRecord}
 use Rattle.mv_inspect.specs.Told.{FileIs, IsMissing}
 use Rattle.mv_commands.specs.Named.{FoundAt, GoesOn, StopsAt, SaysOfModule, SaysOfRules, HasRuleFault, HasRules, IsRefused, IsRefusedBy, IsNoSchedule, IsSchedule, IsNoLog, Starts, files_of}
-use Rattle.mv_commands.specs.Causes.{Known, Seen, CauseOf, HasCause, HasStatus, IsAbout, RunsGuest, RunOf, RanFor, IsRun, IsAudit, IsShow, AuditOf, ShowOf, Keeps, log_path, AllGoOn, Otherwise, Fails, IsExact}
-use Rattle.mv_commands.proofs.Comings.{rose_since}
+use Rattle.mv_commands.specs.Causes.{Known, Seen, CauseOf, HasCause, HasStatus, IsAbout, RunsGuest, RunOf, RanFor, IsRun, IsAudit, IsShow, AuditOf, ShowOf, Keeps, output_of, AssemblyOf, Assembles, FailsToWrite, IsAssemble, AllGoOn, Otherwise, Fails, IsExact}
+use Rattle.mv_syntax.specs.declared.fault.ValidFault.{ValidFault}
+use Rattle.mv_text.specs.Assembly.{assembled}
+use Rattle.mv_commands.specs.Named.{IsAssembly, IsNoText, IsText}
+use Rattle.mv_commands.proofs.Comings.{assembly_is, rose_since}
 use Rattle.mv_commands.proofs.Updates.{named_there}
 use Rattle.mv_commands.specs.declared.ending.Finding.{Finding}
-use Rattle.mv_commands.specs.declared.ending.Finding.TheVariants.{Refused, Valid, BadRules, Rules, BadSchedule, BadLog}
+use Rattle.mv_commands.specs.declared.ending.Finding.TheVariants.{Refused, Valid, BadRules, Rules, BadSchedule, BadLog, BadText}
 use Rattle.mv_commands.specs.declared.ending.Ending.{Ending}
 use Rattle.mv_commands.specs.declared.ending.Ending.TheVariants as ending_is
 
@@ -82,8 +85,11 @@ module_status text (BadRules a) f first second = absurd first
 module_status text (Rules a) f first second = absurd first
 module_status text (BadSchedule a) f first second = absurd first
 module_status text (BadLog a) f first second = absurd first
+module_status text (BadText a) f first second = absurd first
 module_status text (Refused a) (BadLog b) first second = absurd second
+module_status text (Refused a) (BadText b) first second = absurd second
 module_status text Valid (BadLog b) first second = absurd second
+module_status text Valid (BadText b) first second = absurd second
 
 kept_or_unkept : (rule : Rule) (fault : RuleFault) → IsKept rule → IsUnkept rule fault → ⊥
 kept_or_unkept rule fault kept (inl reads) = reads.0 kept.reads
@@ -114,8 +120,11 @@ rules_status text (Refused a) f first second = absurd first
 rules_status text Valid f first second = absurd first
 rules_status text (BadSchedule a) f first second = absurd first
 rules_status text (BadLog a) f first second = absurd first
+rules_status text (BadText a) f first second = absurd first
 rules_status text (BadRules a) (BadLog b) first second = absurd second
+rules_status text (BadRules a) (BadText b) first second = absurd second
 rules_status text (Rules a) (BadLog b) first second = absurd second
+rules_status text (Rules a) (BadText b) first second = absurd second
 
 refused_status : (args : List (List ℕ)) (text : List ℕ) (e f : Finding) → IsRefused args text e → IsRefused args text f → finding_status e ≡ finding_status f
 refused_status args text (Refused a) (Refused b) first second = refl
@@ -128,7 +137,9 @@ refused_status args text (BadRules a) f first second = absurd first
 refused_status args text (Rules a) f first second = absurd first
 refused_status args text (BadSchedule a) f first second = absurd first
 refused_status args text (BadLog a) f first second = absurd first
+refused_status args text (BadText a) f first second = absurd first
 refused_status args text (Refused a) (BadLog b) first second = absurd second
+refused_status args text (Refused a) (BadText b) first second = absurd second
 
 schedule_status : (text : List ℕ) (e f : Finding) → IsNoSchedule text e → IsNoSchedule text f → finding_status e ≡ finding_status f
 schedule_status text (BadSchedule a) (BadSchedule b) first second = refl
@@ -141,7 +152,9 @@ schedule_status text Valid f first second = absurd first
 schedule_status text (BadRules a) f first second = absurd first
 schedule_status text (Rules a) f first second = absurd first
 schedule_status text (BadLog a) f first second = absurd first
+schedule_status text (BadText a) f first second = absurd first
 schedule_status text (BadSchedule a) (BadLog b) first second = absurd second
+schedule_status text (BadSchedule a) (BadText b) first second = absurd second
 
 log_status : (text : List ℕ) (e f : Finding) → IsNoLog text e → IsNoLog text f → finding_status e ≡ finding_status f
 log_status text (BadLog a) (BadLog b) first second = refl
@@ -150,11 +163,13 @@ log_status text (BadLog a) Valid first second = absurd second
 log_status text (BadLog a) (BadRules b) first second = absurd second
 log_status text (BadLog a) (Rules b) first second = absurd second
 log_status text (BadLog a) (BadSchedule b) first second = absurd second
+log_status text (BadLog a) (BadText b) first second = absurd second
 log_status text (Refused a) f first second = absurd first
 log_status text Valid f first second = absurd first
 log_status text (BadRules a) f first second = absurd first
 log_status text (Rules a) f first second = absurd first
 log_status text (BadSchedule a) f first second = absurd first
+log_status text (BadText a) f first second = absurd first
 
 start_status : (told : Option FileMap) (log text : List ℕ) (e f : Finding) → IsRefusedBy told log text e → IsRefusedBy told log text f → finding_status e ≡ finding_status f
 start_status told log text (Refused a) (Refused b) first second = refl
@@ -163,11 +178,45 @@ start_status told log text (Refused a) (BadRules b) first second = absurd second
 start_status told log text (Refused a) (Rules b) first second = absurd second
 start_status told log text (Refused a) (BadSchedule b) first second = absurd second
 start_status told log text (Refused a) (BadLog b) first second = absurd second
+start_status told log text (Refused a) (BadText b) first second = absurd second
 start_status told log text Valid f first second = absurd first
 start_status told log text (BadRules a) f first second = absurd first
 start_status told log text (Rules a) f first second = absurd first
 start_status told log text (BadSchedule a) f first second = absurd first
 start_status told log text (BadLog a) f first second = absurd first
+start_status told log text (BadText a) f first second = absurd first
+
+text_not_valid : (text file : List ℕ) (fault : ValidFault) → IsAssembly text file → (parts : Parts) × (assembled text ≡ Ok parts) × IsFirstFaultOf parts fault → ⊥
+text_not_valid text file fault first second =
+    fault-invalid first.parts fault (subst (λ (p : Parts). IsFirstFaultOf p fault) (same_ok _ _ _ second.1 first.is) second.2) first.valid
+
+text_not_bad : (text : List ℕ) (f : Finding) → IsNoText text f → IsText text → ⊥
+text_not_bad text (BadText fault) first second = ok_not_err _ _ _ second.1.is first
+text_not_bad text (Refused (born.Valid fault)) first second = text_not_valid text second.0 fault second.1 first
+text_not_bad text (Refused (born.Read fault)) first second = absurd first
+text_not_bad text (Refused (born.Start fault)) first second = absurd first
+text_not_bad text (Refused born.NoTransform) first second = absurd first
+text_not_bad text (Refused born.NoResume) first second = absurd first
+text_not_bad text (Refused (born.Transform trap)) first second = absurd first
+text_not_bad text (Refused (born.Code code)) first second = absurd first
+text_not_bad text Valid first second = absurd first
+text_not_bad text (BadRules fault) first second = absurd first
+text_not_bad text (Rules count) first second = absurd first
+text_not_bad text (BadSchedule fault) first second = absurd first
+text_not_bad text (BadLog fault) first second = absurd first
+
+-- what is no text has the status of what is refused
+text_is_four : (text : List ℕ) (f : Finding) → IsNoText text f → finding_status f ≡ 4
+text_is_four text (BadText fault) is = refl
+text_is_four text (Refused fault) is = refl
+text_is_four text (BadRules fault) is = refl
+text_is_four text (BadSchedule fault) is = refl
+text_is_four text (BadLog fault) is = refl
+text_is_four text Valid is = absurd is
+text_is_four text (Rules count) is = absurd is
+
+text_status : (text : List ℕ) (e f : Finding) → IsNoText text e → IsNoText text f → finding_status e ≡ finding_status f
+text_status text e f first second = text_is_four text e first ∙ sym (text_is_four text f second)
 
 -- one status for what a file is found to be
 one_status : (command : Command) (told : Option FileMap) (n : ℕ) (text : List ℕ) (e f : Finding) → FoundAt command told n text e → FoundAt command told n text f → finding_status e ≡ finding_status f
@@ -181,6 +230,7 @@ one_status (ask.Audit from old updates) told zero text e f first second = log_st
 one_status (ask.Audit from old updates) told (suc zero) text e f first second = start_status told from text e f first second
 one_status (ask.Audit from old updates) told (suc (suc n)) text e f first second = absurd first
 one_status (ask.Show from) told n text e f first second = log_status text e f first second
+one_status (ask.Assemble from to) told n text e f first second = text_status text e f first second
 one_status ask.Help told n text e f first second = absurd first
 one_status ask.Version told n text e f first second = absurd first
 
@@ -191,6 +241,7 @@ refused_not_starts args text (BadRules a) first second = first
 refused_not_starts args text (Rules a) first second = first
 refused_not_starts args text (BadSchedule a) first second = first
 refused_not_starts args text (BadLog a) first second = first
+refused_not_starts args text (BadText a) first second = first
 
 schedule_not_bad : (text : List ℕ) (f : Finding) → IsNoSchedule text f → IsSchedule text → ⊥
 schedule_not_bad text (BadSchedule a) first second = ok_not_err _ _ _ second.1 first
@@ -199,6 +250,7 @@ schedule_not_bad text Valid first second = first
 schedule_not_bad text (BadRules a) first second = first
 schedule_not_bad text (Rules a) first second = first
 schedule_not_bad text (BadLog a) first second = first
+schedule_not_bad text (BadText a) first second = first
 
 log_not_bad : (text : List ℕ) (f : Finding) → IsNoLog text f → HasSomeLog text → ⊥
 log_not_bad text (BadLog a) first second = ok_not_err _ _ _ second.2 first
@@ -207,6 +259,7 @@ log_not_bad text Valid first second = first
 log_not_bad text (BadRules a) first second = first
 log_not_bad text (Rules a) first second = first
 log_not_bad text (BadSchedule a) first second = first
+log_not_bad text (BadText a) first second = first
 
 -- ## Files that are told
 
@@ -250,6 +303,7 @@ starts_or_not told files from text (BadRules a) e first second = first
 starts_or_not told files from text (Rules a) e first second = first
 starts_or_not told files from text (BadSchedule a) e first second = first
 starts_or_not told files from text (BadLog a) e first second = first
+starts_or_not told files from text (BadText a) e first second = first
 
 -- a file by which a command ends isn't one past which it goes on
 ends_not_on : (command : Command) (told : Option FileMap) (files : FileMap) (n : ℕ) (text : List ℕ) (f : Finding) → told ≡ Some files → FoundAt command told n text f → GoesOn command told n text → ⊥
@@ -263,6 +317,7 @@ ends_not_on (ask.Audit from old updates) told files zero text f e first second =
 ends_not_on (ask.Audit from old updates) told files (suc zero) text f e first second = starts_or_not told files from text f e first second
 ends_not_on (ask.Audit from old updates) told files (suc (suc n)) text f e first second = first
 ends_not_on (ask.Show from) told files n text f e first second = log_not_bad text f first second
+ends_not_on (ask.Assemble from to) told files n text f e first second = text_not_bad text f first second
 ends_not_on ask.Help told files n text f e first second = second
 ends_not_on ask.Version told files n text f e first second = second
 
@@ -290,6 +345,7 @@ data Kind : Type 0 where
   for_files : Kind
   for_audits : Kind
   for_shows : Kind
+  for_assembly : Kind
   for_help : Kind
 
 abbrev kind_of : Command → Kind
@@ -300,6 +356,7 @@ kind_of (ask.Check path) = for_files
 kind_of (ask.Rules forward) = for_files
 kind_of (ask.Audit from old updates) = for_audits
 kind_of (ask.Show from) = for_shows
+kind_of (ask.Assemble from to) = for_assembly
 kind_of ask.Help = for_help
 kind_of ask.Version = for_help
 
@@ -321,8 +378,24 @@ runs_not_shows k first second = cc
 audits_not_shows : (k : Kind) → k ≡ for_audits → k ≡ for_shows → ⊥
 audits_not_shows k first second = cc
 
+kind_not : (k a b : Kind) → (a ≡ b → ⊥) → k ≡ a → k ≡ b → ⊥
+kind_not k a b differ first second = differ (sym first ∙ second)
+
+help_is_other : for_help ≡ for_assembly → ⊥
+help_is_other e = cc
+
+guests_are_other : for_guests ≡ for_assembly → ⊥
+guests_are_other e = cc
+
+audits_are_other : for_audits ≡ for_assembly → ⊥
+audits_are_other e = cc
+
+shows_are_other : for_shows ≡ for_assembly → ⊥
+shows_are_other e = cc
+
 about_tells : (command : Command) → IsAbout command → kind_of command ≡ for_help
 about_tells ask.Help about = refl
+about_tells (ask.Assemble from to) about = absurd about
 about_tells ask.Version about = refl
 about_tells (ask.Run old args) about = absurd about
 about_tells (ask.Rehearse old schedule args ring to) about = absurd about
@@ -338,6 +411,7 @@ guest_runs (ask.Rehearse old schedule args ring to) guest = refl
 guest_runs (ask.Serve old args ring to) guest = refl
 guest_runs (ask.Check path) guest = absurd guest
 guest_runs (ask.Rules forward) guest = absurd guest
+guest_runs (ask.Assemble from to) guest = absurd guest
 guest_runs (ask.Audit from old updates) guest = absurd guest
 guest_runs (ask.Show from) guest = absurd guest
 guest_runs ask.Help guest = absurd guest
@@ -350,6 +424,7 @@ is_audit (ask.Rehearse old schedule args ring to) audit = absurd audit
 is_audit (ask.Serve old args ring to) audit = absurd audit
 is_audit (ask.Check path) audit = absurd audit
 is_audit (ask.Rules forward) audit = absurd audit
+is_audit (ask.Assemble from to) audit = absurd audit
 is_audit (ask.Show from) audit = absurd audit
 is_audit ask.Help audit = absurd audit
 is_audit ask.Version audit = absurd audit
@@ -361,6 +436,7 @@ is_show (ask.Rehearse old schedule args ring to) show = absurd show
 is_show (ask.Serve old args ring to) show = absurd show
 is_show (ask.Check path) show = absurd show
 is_show (ask.Rules forward) show = absurd show
+is_show (ask.Assemble from to) show = absurd show
 is_show (ask.Audit from old updates) show = absurd show
 is_show ask.Help show = absurd show
 is_show ask.Version show = absurd show
@@ -373,6 +449,7 @@ ran_runs (ask.Check path) seen mid log h ran = absurd ran
 ran_runs (ask.Rules forward) seen mid log h ran = absurd ran
 ran_runs (ask.Audit from old updates) seen mid log h ran = absurd ran
 ran_runs (ask.Show from) seen mid log h ran = absurd ran
+ran_runs (ask.Assemble from to) seen mid log h ran = absurd ran
 ran_runs ask.Help seen mid log h ran = absurd ran
 ran_runs ask.Version seen mid log h ran = absurd ran
 
@@ -384,6 +461,7 @@ audited_audits (ask.Serve old args ring to) told answer audited = absurd audited
 audited_audits (ask.Check path) told answer audited = absurd audited
 audited_audits (ask.Rules forward) told answer audited = absurd audited
 audited_audits (ask.Show from) told answer audited = absurd audited
+audited_audits (ask.Assemble from to) told answer audited = absurd audited
 audited_audits ask.Help told answer audited = absurd audited
 audited_audits ask.Version told answer audited = absurd audited
 
@@ -395,6 +473,7 @@ shown_shows (ask.Serve old args ring to) told entries shown = absurd shown
 shown_shows (ask.Check path) told entries shown = absurd shown
 shown_shows (ask.Rules forward) told entries shown = absurd shown
 shown_shows (ask.Audit from old updates) told entries shown = absurd shown
+shown_shows (ask.Assemble from to) told entries shown = absurd shown
 shown_shows ask.Help told entries shown = absurd shown
 shown_shows ask.Version told entries shown = absurd shown
 
@@ -411,6 +490,7 @@ no_files (ask.Check p) n path about named = about
 no_files (ask.Rules forward) n path about named = about
 no_files (ask.Audit from old updates) n path about named = about
 no_files (ask.Show from) n path about named = about
+no_files (ask.Assemble from to) n path about named = about
 
 -- ## A command that came to its end went on past all its files
 
@@ -436,6 +516,7 @@ ran_goes (ask.Check p) seen mid log h ran = absurd ran
 ran_goes (ask.Rules forward) seen mid log h ran = absurd ran
 ran_goes (ask.Audit from old updates) seen mid log h ran = absurd ran
 ran_goes (ask.Show from) seen mid log h ran = absurd ran
+ran_goes (ask.Assemble from to) seen mid log h ran = absurd ran
 ran_goes ask.Help seen mid log h ran = absurd ran
 ran_goes ask.Version seen mid log h ran = absurd ran
 
@@ -447,6 +528,7 @@ ran_ends (ask.Check p) seen mid log h ran = absurd ran
 ran_ends (ask.Rules forward) seen mid log h ran = absurd ran
 ran_ends (ask.Audit from old updates) seen mid log h ran = absurd ran
 ran_ends (ask.Show from) seen mid log h ran = absurd ran
+ran_ends (ask.Assemble from to) seen mid log h ran = absurd ran
 ran_ends ask.Help seen mid log h ran = absurd ran
 ran_ends ask.Version seen mid log h ran = absurd ran
 
@@ -462,6 +544,7 @@ ran_later (ask.Check p) seen mid log h ran = absurd ran
 ran_later (ask.Rules forward) seen mid log h ran = absurd ran
 ran_later (ask.Audit from old updates) seen mid log h ran = absurd ran
 ran_later (ask.Show from) seen mid log h ran = absurd ran
+ran_later (ask.Assemble from to) seen mid log h ran = absurd ran
 ran_later ask.Help seen mid log h ran = absurd ran
 ran_later ask.Version seen mid log h ran = absurd ran
 
@@ -488,6 +571,7 @@ audited_goes (ask.Serve old args ring to) told answer audited = absurd audited
 audited_goes (ask.Check path) told answer audited = absurd audited
 audited_goes (ask.Rules forward) told answer audited = absurd audited
 audited_goes (ask.Show from) told answer audited = absurd audited
+audited_goes (ask.Assemble from to) told answer audited = absurd audited
 audited_goes ask.Help told answer audited = absurd audited
 audited_goes ask.Version told answer audited = absurd audited
 
@@ -499,8 +583,21 @@ shown_goes (ask.Serve old args ring to) told entries shown = absurd shown
 shown_goes (ask.Check path) told entries shown = absurd shown
 shown_goes (ask.Rules forward) told entries shown = absurd shown
 shown_goes (ask.Audit from old updates) told entries shown = absurd shown
+shown_goes (ask.Assemble from to) told entries shown = absurd shown
 shown_goes ask.Help told entries shown = absurd shown
 shown_goes ask.Version told entries shown = absurd shown
+
+-- a text that was assembled is one
+assembled_goes : (command : Command) (told : Option FileMap) (P : List ℕ → List ℕ → Type 0) → AssemblyOf command P → ((from to : List ℕ) → P from to → FileIs told from IsText) → AllGoOn command told
+assembled_goes command told P holds there =
+    let a = assembly_is command P holds in
+    subst (λ (c : Command). AllGoOn c told) (sym a.2) (λ n path named. one_goes told IsText a.0 n path (there a.0 a.1 a.3) named)
+
+assembled_kind : (command : Command) (P : List ℕ → List ℕ → Type 0) → AssemblyOf command P → kind_of command ≡ for_assembly
+assembled_kind command P holds = let a = assembly_is command P holds in ap kind_of a.2
+
+output_goes : (seen after : Seen) (log : Log) (bytes : ℕ) (from to : List ℕ) → Assembles seen after log bytes from to → FileIs seen.files from IsText
+output_goes seen after log bytes from to made files e = (made.0.text, made.0.stands files e, (made.0.file, made.0.is_assembly))
 
 -- ## Every ending against what the words and the files say
 
@@ -510,6 +607,8 @@ data Done (command : Command) (seen after : Seen) (log : Log) (ending : Ending) 
   unkept : (path : List ℕ) (h : How) → ending ≡ ending_is.LogFailed path h → RanFor command seen after log h ending → Done command seen after log ending
   unmade : (h : How) → ending ≡ ending_is.LogNotMade h → RanFor command seen after log h ending → Done command seen after log ending
   audited : (answer : Option ℕ) → ending ≡ ending_is.Audited answer → AuditOf command seen.files answer → Done command seen after log ending
+  made : (bytes : ℕ) → ending ≡ ending_is.Assembled bytes → AssemblyOf command (Assembles seen after log bytes) → Done command seen after log ending
+  unwritten : (path : List ℕ) → ending ≡ ending_is.NotWritten path → AssemblyOf command (FailsToWrite seen after log path) → Done command seen after log ending
   shown_by : (entries : List Entry) → status_of ending ≡ 0 → ShowOf command seen.files entries → Done command seen after log ending
 
 done_goes : (command : Command) (seen after : Seen) (log : Log) (ending : Ending) → Done command seen after log ending → AllGoOn command seen.files
@@ -517,6 +616,8 @@ done_goes command seen after log ending (ran h e was) = ran_goes command seen wa
 done_goes command seen after log ending (unkept path h e was) = ran_goes command seen was.0 log h was.1
 done_goes command seen after log ending (unmade h e was) = ran_goes command seen was.0 log h was.1
 done_goes command seen after log ending (audited answer is was) = audited_goes command seen.files answer was
+done_goes command seen after log ending (made bytes e was) = assembled_goes command seen.files _ was (output_goes seen after log bytes)
+done_goes command seen after log ending (unwritten path e was) = assembled_goes command seen.files _ was (λ from to fails. fails.1)
 done_goes command seen after log ending (shown_by entries is was) = shown_goes command seen.files entries was
 
 done_not_about : (command : Command) (seen after : Seen) (log : Log) (ending : Ending) → Done command seen after log ending → IsAbout command → ⊥
@@ -524,6 +625,8 @@ done_not_about command seen after log ending (ran h e was) about = tells_not_run
 done_not_about command seen after log ending (unkept path h e was) about = tells_not_runs (kind_of command) (about_tells command about) (ran_runs command seen was.0 log h was.1)
 done_not_about command seen after log ending (unmade h e was) about = tells_not_runs (kind_of command) (about_tells command about) (ran_runs command seen was.0 log h was.1)
 done_not_about command seen after log ending (audited answer is was) about = tells_not_audits (kind_of command) (about_tells command about) (audited_audits command seen.files answer was)
+done_not_about command seen after log ending (made bytes e was) about = kind_not (kind_of command) for_help for_assembly help_is_other (about_tells command about) (assembled_kind command _ was)
+done_not_about command seen after log ending (unwritten path e was) about = kind_not (kind_of command) for_help for_assembly help_is_other (about_tells command about) (assembled_kind command _ was)
 done_not_about command seen after log ending (shown_by entries is was) about = tells_not_shows (kind_of command) (about_tells command about) (shown_shows command seen.files entries was)
 
 module _ (Is : Known) (words : List (List ℕ)) (seen after : Seen) (log : Log) (sink : ℕ × ℕ) (status : ℕ) where
@@ -544,6 +647,8 @@ module _ (Is : Known) (words : List (List ℕ)) (seen after : Seen) (log : Log) 
   bad_words_is (ending_is.LogNotMade h) cause shows none = absurd (none cause.0 cause.1 cause.2)
   bad_words_is (ending_is.Audited illegal) cause shows none = absurd (none cause.0 cause.1 cause.2)
   bad_words_is (ending_is.Shown entries) cause shows none = absurd (none cause.0 cause.1 cause.2)
+  bad_words_is (ending_is.Assembled bytes) cause shows none = absurd (none cause.0 cause.1 cause.2)
+  bad_words_is (ending_is.NotWritten path) cause shows none = absurd (none cause.0 cause.1 cause.2)
 
   -- the cause is one of this command
   of_command : (command : Command) (ending : Ending) → Says words command → (found : (c : Command) × Is c × Says words c × CauseOf c seen after log ending) → CauseOf command seen after log ending
@@ -569,6 +674,8 @@ module _ (Is : Known) (words : List (List ℕ)) (seen after : Seen) (log : Log) 
   case_of command (ending_is.LogFailed path h) is says cause = done (unkept path h refl (of_command command (ending_is.LogFailed path h) says cause))
   case_of command (ending_is.LogNotMade h) is says cause = done (unmade h refl (of_command command (ending_is.LogNotMade h) says cause))
   case_of command (ending_is.Audited illegal) is says cause = done (audited illegal refl (of_command command (ending_is.Audited illegal) says cause).0)
+  case_of command (ending_is.Assembled bytes) is says cause = done (made bytes refl (of_command command (ending_is.Assembled bytes) says cause))
+  case_of command (ending_is.NotWritten path) is says cause = done (unwritten path refl (of_command command (ending_is.NotWritten path) says cause))
   case_of command (ending_is.Shown entries) is says cause = done (shown_by entries.list refl (of_command command (ending_is.Shown entries) says cause).0)
 
   status_by : (ending other : Ending) → ending ≡ other → (status ≡ status_of ending) ⊎ Otherwise sink status → (status ≡ status_of other) ⊎ Otherwise sink status
@@ -673,11 +780,13 @@ module _ (Is : Known) (words : List (List ℕ)) (seen after : Seen) (log : Log) 
   ran_is command ending guest (inr fails) shows = inr fails
   ran_is command ending guest (inl (ran h e was)) shows = elim (status_by ending (ending_is.Ran h) e shows) [ inl is ↦ inl (h, ran_ends command seen was.0 log h was.1, is) | inr other ↦ inr (inr other) ]
   ran_is command ending guest (inl (unkept path h e was)) shows =
-      let lost = subst (λ (x : Ending). Keeps (log_path command) was.0 log after x) e was.2 in
+      let lost = subst (λ (x : Ending). Keeps (output_of command) was.0 log after x) e was.2 in
       let rose = rose_since seen.file_faults was.0.file_faults after.file_faults (ran_later command seen was.0 log h was.1) lost.3 in
       inr (file_fault rose (status_by ending (ending_is.LogFailed path h) e shows))
   ran_is command ending guest (inl (unmade h e was)) shows = inr (inr (memory_is (status_by ending (ending_is.LogNotMade h) e shows)))
   ran_is command ending guest (inl (audited answer e was)) shows = absurd (runs_not_audits (kind_of command) (guest_runs command guest) (audited_audits command seen.files answer was))
+  ran_is command ending guest (inl (made bytes e was)) shows = absurd (kind_not (kind_of command) for_guests for_assembly guests_are_other (guest_runs command guest) (assembled_kind command _ was))
+  ran_is command ending guest (inl (unwritten path e was)) shows = absurd (kind_not (kind_of command) for_guests for_assembly guests_are_other (guest_runs command guest) (assembled_kind command _ was))
   ran_is command ending guest (inl (shown_by entries e was)) shows = absurd (runs_not_shows (kind_of command) (guest_runs command guest) (shown_shows command seen.files entries was))
 
   audited_is : (command : Command) (ending : Ending) → IsAudit command → Done command seen after log ending ⊎ Fails seen after sink status → (status ≡ status_of ending) ⊎ Otherwise sink status
@@ -687,6 +796,8 @@ module _ (Is : Known) (words : List (List ℕ)) (seen after : Seen) (log : Log) 
   audited_is command ending audit (inl (ran h e was)) shows = absurd (runs_not_audits (kind_of command) (ran_runs command seen was.0 log h was.1) (is_audit command audit))
   audited_is command ending audit (inl (unkept path h e was)) shows = absurd (runs_not_audits (kind_of command) (ran_runs command seen was.0 log h was.1) (is_audit command audit))
   audited_is command ending audit (inl (unmade h e was)) shows = absurd (runs_not_audits (kind_of command) (ran_runs command seen was.0 log h was.1) (is_audit command audit))
+  audited_is command ending audit (inl (made bytes e was)) shows = absurd (kind_not (kind_of command) for_audits for_assembly audits_are_other (is_audit command audit) (assembled_kind command _ was))
+  audited_is command ending audit (inl (unwritten path e was)) shows = absurd (kind_not (kind_of command) for_audits for_assembly audits_are_other (is_audit command audit) (assembled_kind command _ was))
   audited_is command ending audit (inl (shown_by entries e was)) shows = absurd (audits_not_shows (kind_of command) (is_audit command audit) (shown_shows command seen.files entries was))
 
   shown_is : (command : Command) (ending : Ending) → IsShow command → Done command seen after log ending ⊎ Fails seen after sink status → (status ≡ status_of ending) ⊎ Otherwise sink status
@@ -697,7 +808,25 @@ module _ (Is : Known) (words : List (List ℕ)) (seen after : Seen) (log : Log) 
   shown_is command ending show (inl (ran h e was)) shown = absurd (runs_not_shows (kind_of command) (ran_runs command seen was.0 log h was.1) (is_show command show))
   shown_is command ending show (inl (unkept path h e was)) shown = absurd (runs_not_shows (kind_of command) (ran_runs command seen was.0 log h was.1) (is_show command show))
   shown_is command ending show (inl (unmade h e was)) shown = absurd (runs_not_shows (kind_of command) (ran_runs command seen was.0 log h was.1) (is_show command show))
+  shown_is command ending show (inl (made bytes e was)) shown = absurd (kind_not (kind_of command) for_shows for_assembly shows_are_other (is_show command show) (assembled_kind command _ was))
+  shown_is command ending show (inl (unwritten path e was)) shown = absurd (kind_not (kind_of command) for_shows for_assembly shows_are_other (is_show command show) (assembled_kind command _ was))
   shown_is command ending show (inl (audited answer e was)) shown = absurd (audits_not_shows (kind_of command) (audited_audits command seen.files answer was) (is_show command show))
+
+  assembled_is : (command : Command) (ending : Ending) → IsAssemble command → Done command seen after log ending ⊎ Fails seen after sink status → (status ≡ status_of ending) ⊎ Otherwise sink status
+      → (status ≡ 0) ⊎ Fails seen after sink status
+  assembled_is command ending asks (inr fails) look = inr fails
+  assembled_is command ending asks (inl (made bytes e was)) look = elim (status_by ending (ending_is.Assembled bytes) e look) [ inl is ↦ inl is | inr other ↦ inr (inr other) ]
+  assembled_is command ending asks (inl (unwritten path e was)) look =
+      let a = assembly_is command _ was in
+      inr (file_fault a.3.2 (status_by ending (ending_is.NotWritten path) e look))
+  assembled_is command ending asks (inl (ran h e was)) look = absurd (kind_not (kind_of command) for_guests for_assembly guests_are_other (ran_runs command seen was.0 log h was.1) (assembled_kind command _ asks))
+  assembled_is command ending asks (inl (unkept path h e was)) look = absurd (kind_not (kind_of command) for_guests for_assembly guests_are_other (ran_runs command seen was.0 log h was.1) (assembled_kind command _ asks))
+  assembled_is command ending asks (inl (unmade h e was)) look = absurd (kind_not (kind_of command) for_guests for_assembly guests_are_other (ran_runs command seen was.0 log h was.1) (assembled_kind command _ asks))
+  assembled_is command ending asks (inl (audited answer e was)) look = absurd (kind_not (kind_of command) for_audits for_assembly audits_are_other (audited_audits command seen.files answer was) (assembled_kind command _ asks))
+  assembled_is command ending asks (inl (shown_by entries e was)) look = absurd (kind_not (kind_of command) for_shows for_assembly shows_are_other (shown_shows command seen.files entries was) (assembled_kind command _ asks))
+
+  assemble_not_about : (command : Command) → IsAssemble command → IsAbout command → ⊥
+  assemble_not_about command asks about = kind_not (kind_of command) for_help for_assembly help_is_other (about_tells command about) (assembled_kind command _ asks)
 
   guest_not_about : (command : Command) → RunsGuest command → IsAbout command → ⊥
   guest_not_about command guest about = tells_not_runs (kind_of command) (about_tells command about) (guest_runs command guest)
@@ -721,6 +850,7 @@ exact_is Is words seen after log printed sink status has =
       missing = λ command files path is says told stops. missing_is Is words seen after log sink status command files path ending told stops (by command is says) look;
       found = λ command files path finding is says told stops. found_is Is words seen after log sink status command files path finding ending told stops (by command is says) look;
       audited = λ command files is says audit told goes. audited_is Is words seen after log sink status command ending audit (to_end command files is says (audit_not_about Is words seen after log sink status command audit) told goes) look;
+      assembled = λ command files is says asks told goes. assembled_is Is words seen after log sink status command ending asks (to_end command files is says (assemble_not_about Is words seen after log sink status command asks) told goes) look;
       shown = λ command files is says show told goes. shown_is Is words seen after log sink status command ending show (to_end command files is says (show_not_about Is words seen after log sink status command show) told goes) look;
       ran = λ command files is says guest told goes. ran_is Is words seen after log sink status command ending guest (to_end command files is says (guest_not_about Is words seen after log sink status command guest) told goes) look;
     }

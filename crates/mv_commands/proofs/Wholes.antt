@@ -7,7 +7,7 @@ use Rattle.mv_syntax.specs.declared.fault.ReadKind.TheVariants.{Limit}
 use Rattle.mv_syntax.specs.declared.fault.BornFault.TheVariants as born
 use Rattle.mv_syntax.specs.Sections.{Parts}
 use Rattle.mv_syntax.specs.Modules.{Spells, module_at}
-use Rattle.mv_rules.specs.declared.fault.RuleKind.TheVariants.{Size}
+use Rattle.mv_rules.specs.declared.fault.RuleKind.TheVariants as rule_kind
 use Rattle.mv_rules.specs.RulesText.{rules_in}
 use Rattle.mv_outside.specs.Files.{FileMap}
 use Rattle.mv_transform.specs.Births.{behaviour, started, started_from, with_module}
@@ -16,10 +16,17 @@ use Rattle.mv_guest.specs.Standing.{Standing}
 use Rattle.mv_rehearse.specs.declared.beats.Beat.{Beat}
 use Rattle.mv_commands.specs.Named.{IsInvalid, IsValidFile, SaysOfModule, SaysOfRules}
 use Rattle.mv_inspect.specs.Told.{FileIs, StandsAt}
+use Rattle.mv_statements.specs.declared.fault.TextFault.{TextFault}
+use Rattle.mv_statements.specs.declared.fault.TextKind.TheVariants.{Size}
+use Rattle.mv_text.specs.Assembly.{assembled}
+use Rattle.mv_commands.specs.Named.{IsNoText}
+use Rattle.mv_commands.specs.Loading.{IsMade, IsMadeOf}
+use Rattle.mv_commands.specs.declared.assembling.Made.{Made}
+use Rattle.mv_commands.specs.declared.assembling.Made.TheVariants as made
 use Rattle.mv_commands.specs.Loading.{IsJudged, IsJudgedOf, IsLoaded, IsStarted, IsPlanned, IsPlannedOf}
 use Rattle.mv_commands.specs.Schedules.{schedule_of}
 use Rattle.mv_commands.specs.declared.ending.Finding.{Finding}
-use Rattle.mv_commands.specs.declared.ending.Finding.TheVariants.{Refused, Valid, BadRules, Rules, BadSchedule, BadLog}
+use Rattle.mv_commands.specs.declared.ending.Finding.TheVariants.{Refused, Valid, BadRules, Rules, BadSchedule, BadLog, BadText}
 use Rattle.mv_commands.specs.declared.ending.ScheduleFault.{ScheduleFault}
 use Rattle.mv_commands.specs.declared.ending.ScheduleFault.TheVariants as schedule_fault
 use Rattle.mv_commands.specs.declared.judging.Judged.{Judged}
@@ -70,10 +77,11 @@ module_says text all (BadRules fault) read is = absurd is
 module_says text all (Rules count) read is = absurd is
 module_says text all (BadSchedule fault) read is = absurd is
 module_says text all (BadLog fault) read is = absurd is
+module_says text all (BadText fault) read is = absurd is
 
 -- ## Rules
 
-rules_too_long : (text : List ℕ) → 65536 < length text → rules_in text ≡ Err (record { line = 1; kind = Size })
+rules_too_long : (text : List ℕ) → 65536 < length text → rules_in text ≡ Err (record { line = 1; kind = rule_kind.Size })
 rules_too_long text long = rw (lt-ltb _ _ long) refl
 
 rules_by : (long : Bool) (text all : List ℕ) → ltb 65537 (length all) ≡ long → text ≡ take 65537 all → rules_in text ≡ rules_in all
@@ -96,6 +104,7 @@ rules_say text all (Refused fault) same is = absurd is
 rules_say text all Valid same is = absurd is
 rules_say text all (BadSchedule fault) same is = absurd is
 rules_say text all (BadLog fault) same is = absurd is
+rules_say text all (BadText fault) same is = absurd is
 
 -- ## Schedules
 
@@ -113,6 +122,53 @@ schedule_by_length true text all many read =
 
 pub same_schedule : (text all : List ℕ) → text ≡ take 16777217 all → schedule_of text ≡ schedule_of all
 same_schedule text all read = schedule_by_length (ltb 16777217 (length all)) text all refl read
+
+-- ## Assembler texts
+
+text_too_long : (text : List ℕ) → 2 ^ 24 < length text → assembled text ≡ Err (record { line = 1; kind = Size })
+text_too_long text long = rw (lt-ltb _ _ long) refl
+
+text_by_length : (long : Bool) (text all : List ℕ) → ltb 16777217 (length all) ≡ long → text ≡ take 16777217 all → assembled text ≡ assembled all
+text_by_length false text all few read =
+    let short : length all ≤ 16777217 = ltb-false _ _ few in
+    ap assembled (read ∙ take_all 16777217 all short)
+text_by_length true text all many read =
+    let long : 16777217 < length all = ltb-true _ _ many in
+    let cut : length text ≡ 16777217 = omega (arith, ap length read, length-take 16777217 all) in
+    text_too_long text (omega arith) ∙ sym (text_too_long all (omega arith))
+
+same_assembly : (text all : List ℕ) → text ≡ take 16777217 all → assembled text ≡ assembled all
+same_assembly text all read = text_by_length (ltb 16777217 (length all)) text all refl read
+
+text_says : (text all : List ℕ) (finding : Finding) → assembled text ≡ assembled all → IsNoText text finding → IsNoText all finding
+text_says text all (BadText fault) same is = sym same ∙ is
+text_says text all (Refused (born.Valid fault)) same is = (is.0, sym same ∙ is.1, is.2)
+text_says text all (Refused (born.Read fault)) same is = absurd is
+text_says text all (Refused (born.Start fault)) same is = absurd is
+text_says text all (Refused born.NoTransform) same is = absurd is
+text_says text all (Refused born.NoResume) same is = absurd is
+text_says text all (Refused (born.Transform trap)) same is = absurd is
+text_says text all (Refused (born.Code code)) same is = absurd is
+text_says text all Valid same is = absurd is
+text_says text all (BadRules fault) same is = absurd is
+text_says text all (Rules count) same is = absurd is
+text_says text all (BadSchedule fault) same is = absurd is
+text_says text all (BadLog fault) same is = absurd is
+
+text_not : (r : Result Parts TextFault) (fault : TextFault) (parts : Parts) → r ≡ Err fault → r ≡ Ok parts → ⊥
+text_not r fault parts e f = cc
+
+whole_text_by : (long : Bool) (read all : List ℕ) (parts : Parts) → ltb 16777217 (length all) ≡ long → read ≡ take 16777217 all → assembled read ≡ Ok parts → read ≡ all
+whole_text_by false read all parts few is ok =
+    let short : length all ≤ 16777217 = ltb-false _ _ few in
+    is ∙ take_all 16777217 all short
+whole_text_by true read all parts many is ok =
+    let long : 16777217 < length all = ltb-true _ _ many in
+    absurd (text_not (assembled read) _ parts (same_assembly read all is ∙ text_too_long all (omega arith)) ok)
+
+-- the whole file, where it is an assembler text
+whole_text : (read all : List ℕ) (parts : Parts) → read ≡ take 16777217 all → assembled read ≡ Ok parts → read ≡ all
+whole_text read all parts is ok = whole_text_by (ltb 16777217 (length all)) read all parts refl is ok
 
 -- ## What was read is the front of the file of a path, as far as it is told
 
@@ -180,3 +236,9 @@ planned_is told path faults faults_now read planned.NoFile front is = absurd is
 planned_is told path faults faults_now read planned.NoMemory front is = tt
 planned_is told path faults faults_now read (planned.Refused fault) front is = by_front 16777217 told path read _ front (λ all e. sym (same_schedule read all e) ∙ is)
 planned_is told path faults faults_now read (planned.Beats beats) front is = (read, stands_by 16777217 told path read front (λ all e. whole_schedule read all beats.items e is), is)
+
+pub made_is : (told : Option FileMap) (path : List ℕ) (faults faults_now : ℕ) (read : List ℕ) (found : Made) → IsFront 16777217 told path read → IsMadeOf read found → IsMade told path faults faults_now found
+made_is told path faults faults_now read made.NoFile front is = absurd is
+made_is told path faults faults_now read made.NoMemory front is = tt
+made_is told path faults faults_now read (made.Refused finding) front is = by_front 16777217 told path read _ front (λ all e. text_says read all finding (same_assembly read all e) is)
+made_is told path faults faults_now read (made.Module file) front is = (read, stands_by 16777217 told path read front (λ all e. whole_text read all is.parts e is.is), is)

@@ -1,5 +1,5 @@
 -- What holds where a command line comes to an ending, and which ending comes (docs/GUIDE.md, "Statuses").
-use Rattle.std.specs.Prelude.{◌≡◌, ◌≤◌, ◌⊎◌, ℕ, List, [], ◌∷◌, Option, Some, None, slice_get, Ok}
+use Rattle.std.specs.Prelude.{◌≡◌, ◌≤◌, ◌⊎◌, ℕ, List, [], ◌∷◌, Option, Some, None, length, slice_get, Ok}
 use Rattle.mv_calls.specs.declared.calls.Item.{Item}
 use Rattle.mv_outside.specs.Began.{Began}
 use Rattle.mv_outside.specs.Causes.{Rose}
@@ -24,11 +24,11 @@ use Rattle.mv_inspect.specs.Audits.{AreInThrees, IsAudited}
 use Rattle.mv_inspect.specs.Logs.{HasLog}
 use Rattle.mv_inspect.specs.Told.{FileIs, IsMissing, StandsAt}
 use Rattle.mv_commands.specs.Lines.{Shows, audit_status, finding_status}
-use Rattle.mv_commands.specs.Named.{FoundAt, GoesOn, StopsAt, files_of}
+use Rattle.mv_commands.specs.Named.{FoundAt, GoesOn, IsAssembly, IsText, StopsAt, files_of}
 use Rattle.mv_commands.specs.Schedules.{schedule_of}
 use Rattle.mv_commands.specs.declared.ending.Finding.{Finding}
 use Rattle.mv_commands.specs.declared.ending.Ending.{Ending}
-use Rattle.mv_commands.specs.declared.ending.Ending.TheVariants.{BadWords, NoMemory, Told, NoFile, Found, Ran, LogFailed, LogNotMade, Audited, Shown}
+use Rattle.mv_commands.specs.declared.ending.Ending.TheVariants.{BadWords, NoMemory, Told, NoFile, Found, Ran, LogFailed, LogNotMade, Audited, Shown, Assembled, NotWritten}
 
 -- what kernel, console and files tell at a moment, and how often each has failed
 pub record Seen : Type 0 where
@@ -124,11 +124,12 @@ RunOf command before after log h = ⊥
 
 -- ## The file of the log
 
--- where the command wants its log
-abbrev pub log_path : Command → Option (List ℕ)
-log_path (ask.Rehearse old schedule args ring path) = path
-log_path (ask.Serve old args ring path) = path
-log_path command = None
+-- the file that the command writes, if there is one: where it wants its log, or the module of a text
+abbrev pub output_of : Command → Option (List ℕ)
+output_of (ask.Rehearse old schedule args ring path) = path
+output_of (ask.Serve old args ring path) = path
+output_of (ask.Assemble text to) = Some to
+output_of command = None
 
 -- nothing changed but files
 pub record FilesAlone (mid after : Seen) : Type 0 where
@@ -161,7 +162,7 @@ Keeps wanted mid log after ending = ⊥
 
 -- a guest ran for the command, its log ended so, and the ending says what became of the log's file
 abbrev pub RanFor : Command → Seen → Seen → Log → How → Ending → Type 0
-RanFor command before after log h ending = (mid : Seen) × RunOf command before mid log h × Keeps (log_path command) mid log after ending
+RanFor command before after log h ending = (mid : Seen) × RunOf command before mid log h × Keeps (output_of command) mid log after ending
 
 -- ## The cause of an ending
 
@@ -193,6 +194,49 @@ AuditOf command told answer = ⊥
 abbrev pub ShowOf : Command → Option FileMap → List Entry → Type 0
 ShowOf (ask.Show log) told entries = (text : List ℕ) × StandsAt told log text × ((args : List (List ℕ)) × HasLog text args entries)
 ShowOf command told entries = ⊥
+
+-- ## A text was assembled
+
+-- no guest ran, and no file changed but this one
+pub record WroteAlone (to : List ℕ) (before after : Seen) (log : Log) : Type 0 where
+  pub entries : log.entries.list ≡ []
+  pub updates : log.updates.list ≡ []
+  pub bytes : log.start.«module» ≡ []
+  pub args : log.start.args ≡ []
+  pub done : after.done ≡ before.done
+  pub coming : after.coming ≡ before.coming
+  pub said : after.said ≡ before.said
+  pub kernel_faults : after.kernel_faults ≡ before.kernel_faults
+  pub console_faults : after.console_faults ≡ before.console_faults
+  pub file_faults : before.file_faults ≤ after.file_faults
+  pub others : ChangesOnly before.files to after.files
+
+-- the second file is that of the module that the text in the first spells, and has so many bytes
+pub record IsOutput (told : Option FileMap) (from : List ℕ) (now : Option FileMap) (to : List ℕ) (bytes : ℕ) : Type 0 where
+  pub text : List ℕ
+  pub stands : StandsAt told from text
+  pub file : List ℕ
+  pub is_assembly : IsAssembly text file
+  pub has_file : HasFile now to file
+  pub size : bytes ≡ length file
+
+-- the command assembles, and P holds of the paths of its text and its module
+abbrev pub AssemblyOf : Command → (List ℕ → List ℕ → Type 0) → Type 0
+AssemblyOf (ask.Assemble from to) P = P from to
+AssemblyOf command P = ⊥
+
+abbrev pub Anything : List ℕ → List ℕ → Type 0
+Anything from to = Unit {0}
+
+abbrev pub IsAssemble : Command → Type 0
+IsAssemble command = AssemblyOf command Anything
+
+-- the text was assembled and its module written, or couldn't be
+abbrev pub Assembles : Seen → Seen → Log → ℕ → List ℕ → List ℕ → Type 0
+Assembles before after log bytes from to = IsOutput before.files from after.files to bytes × WroteAlone to before after log
+
+abbrev pub FailsToWrite : Seen → Seen → Log → List ℕ → List ℕ → List ℕ → Type 0
+FailsToWrite before after log path from to = (path ≡ to) × FileIs before.files from IsText × Rose before.file_faults after.file_faults × WroteAlone to before after log
 
 -- the capacity that a command gives is one of a feed, and the files of updates come in threes
 abbrev pub IsFeasible : Command → Type 0
@@ -226,6 +270,8 @@ CauseOf command before after log (LogFailed path h) = RanFor command before afte
 CauseOf command before after log (LogNotMade h) = RanFor command before after log h (LogNotMade h)
 CauseOf command before after log (Audited illegal) = AuditOf command before.files illegal × NoGuest before after log
 CauseOf command before after log (Shown entries) = ShowOf command before.files entries.list × NoGuest before after log
+CauseOf command before after log (Assembled bytes) = AssemblyOf command (Assembles before after log bytes)
+CauseOf command before after log (NotWritten path) = AssemblyOf command (FailsToWrite before after log path)
 
 -- of these words, over the commands that there are; where memory was wanted before they were read, nobody knows what they say
 abbrev pub HasCause : Known → List (List ℕ) → Seen → Seen → Log → Ending → Type 0
@@ -263,6 +309,8 @@ pub record IsExact (Is : Known) (words : List (List ℕ)) (before after : Seen) 
       (status ≡ finding_status finding) ⊎ Fails before after sink_faults status
   pub audited : (command : Command) (files : FileMap) → Is command → Says words command → IsAudit command → before.files ≡ Some files → AllGoOn command before.files →
       ((answer : Option ℕ) × AuditOf command before.files answer × (status ≡ audit_status answer)) ⊎ Fails before after sink_faults status
+  pub assembled : (command : Command) (files : FileMap) → Is command → Says words command → IsAssemble command → before.files ≡ Some files → AllGoOn command before.files →
+      (status ≡ 0) ⊎ Fails before after sink_faults status
   pub shown : (command : Command) (files : FileMap) → Is command → Says words command → IsShow command → before.files ≡ Some files → AllGoOn command before.files →
       (status ≡ 0) ⊎ Fails before after sink_faults status
   pub ran : (command : Command) (files : FileMap) → Is command → Says words command → RunsGuest command → before.files ≡ Some files →
@@ -278,11 +326,11 @@ IsLegal log =
 
 -- ## The files
 
--- the words name this path for the log
-abbrev pub NamesLog : List (List ℕ) → List ℕ → Type 0
-NamesLog words path = (command : Command) × Says words command × (log_path command ≡ Some path)
+-- the words name this path for the log, or for the module of a text
+abbrev pub NamesOutput : List (List ℕ) → List ℕ → Type 0
+NamesOutput words path = (command : Command) × Says words command × (output_of command ≡ Some path)
 
--- each file is as before, but one that the words name for the log
+-- each file is as before, but the one that the command writes
 abbrev pub KeepsFiles : List (List ℕ) → Option FileMap → Option FileMap → Type 0
 KeepsFiles words None now = now ≡ None
-KeepsFiles words (Some before) now = (files : FileMap) × (now ≡ Some files) × ((path : List ℕ) → (NamesLog words path → ⊥) → files path ≡ before path)
+KeepsFiles words (Some before) now = (files : FileMap) × (now ≡ Some files) × ((path : List ℕ) → (NamesOutput words path → ⊥) → files path ≡ before path)

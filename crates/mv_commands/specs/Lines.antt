@@ -1,20 +1,15 @@
 -- The status and the line of each ending (docs/GUIDE.md, "Statuses"; docs/FORMATS.md, "Fault lines").
 use Rattle.std.specs.Prelude.{◌≡◌, ℕ, List, [], ◌∷◌, ◌++◌, codes, decimal, Option, Some, None, ◌⊎◌}
-use Rattle.mv_calls.specs.declared.trap.Trap.{Trap}
-use Rattle.mv_calls.specs.declared.trap.Trap.TheVariants as trap
-use Rattle.mv_syntax.specs.declared.fault.ReadKind.{ReadKind}
-use Rattle.mv_syntax.specs.declared.fault.ReadKind.TheVariants as read
-use Rattle.mv_syntax.specs.declared.fault.ValidKind.{ValidKind}
-use Rattle.mv_syntax.specs.declared.fault.ValidKind.TheVariants as valid
 use Rattle.mv_syntax.specs.declared.fault.StartFault.{StartFault}
 use Rattle.mv_syntax.specs.declared.fault.StartFault.TheVariants as start
 use Rattle.mv_syntax.specs.declared.fault.BornFault.{BornFault}
 use Rattle.mv_syntax.specs.declared.fault.BornFault.TheVariants as born
-use Rattle.mv_rules.specs.declared.fault.RuleKind.{RuleKind}
-use Rattle.mv_rules.specs.declared.fault.RuleKind.TheVariants as rule
+use Rattle.mv_statements.specs.declared.fault.TextKind.{TextKind}
+use Rattle.mv_statements.specs.declared.fault.TextKind.TheVariants as text_kind
 use Rattle.mv_record.specs.declared.fault.RecordKind.{RecordKind}
 use Rattle.mv_record.specs.declared.fault.RecordKind.TheVariants as record_kind
 use Rattle.mv_show.specs.Lines.{log_text}
+use Rattle.mv_show.specs.Names.{trap_text, read_kind_text, valid_kind_text, rule_kind_text}
 use Rattle.mv_history.specs.declared.log.How.{How}
 use Rattle.mv_history.specs.declared.log.How.TheVariants as how
 use Rattle.mv_rehearse.specs.Runs.{end_status}
@@ -23,71 +18,11 @@ use Rattle.mv_outside.specs.Told.{told_more, AddsPart}
 use Rattle.mv_commands.specs.declared.ending.ScheduleFault.{ScheduleFault}
 use Rattle.mv_commands.specs.declared.ending.ScheduleFault.TheVariants.{Letter, Limit}
 use Rattle.mv_commands.specs.declared.ending.Finding.{Finding}
-use Rattle.mv_commands.specs.declared.ending.Finding.TheVariants.{Refused, Valid, BadRules, Rules, BadSchedule, BadLog}
+use Rattle.mv_commands.specs.declared.ending.Finding.TheVariants.{Refused, Valid, BadRules, Rules, BadSchedule, BadLog, BadText}
 use Rattle.mv_commands.specs.declared.ending.Ending.{Ending}
-use Rattle.mv_commands.specs.declared.ending.Ending.TheVariants.{BadWords, NoMemory, Told, NoFile, Found, Ran, LogFailed, LogNotMade, Audited, Shown}
+use Rattle.mv_commands.specs.declared.ending.Ending.TheVariants.{BadWords, NoMemory, Told, NoFile, Found, Ran, LogFailed, LogNotMade, Audited, Shown, Assembled, NotWritten}
 
 -- ## Names
-
-abbrev pub trap_text : Trap → List ℕ
-trap_text trap.Unreachable = codes "Unreachable"
-trap_text trap.DivideByZero = codes "DivideByZero"
-trap_text trap.Overflow = codes "Overflow"
-trap_text trap.Bounds = codes "Bounds"
-trap_text trap.TableIndex = codes "TableIndex"
-trap_text trap.EmptyElement = codes "EmptyElement"
-trap_text trap.IndirectType = codes "IndirectType"
-trap_text trap.Frames = codes "Frames"
-trap_text trap.Operands = codes "Operands"
-trap_text trap.Spent = codes "Spent"
-trap_text trap.OldGlobal = codes "OldGlobal"
-trap_text trap.NotNow = codes "NotNow"
-trap_text trap.CallInTransform = codes "CallInTransform"
-
-abbrev pub read_kind_text : ReadKind → List ℕ
-read_kind_text read.Magic = codes "Magic"
-read_kind_text read.Cut = codes "Cut"
-read_kind_text read.Order = codes "Order"
-read_kind_text read.Size = codes "Size"
-read_kind_text read.Leb = codes "Leb"
-read_kind_text read.Utf8 = codes "Utf8"
-read_kind_text read.Kind = codes "Kind"
-read_kind_text read.Float = codes "Float"
-read_kind_text read.LaterFeature = codes "LaterFeature"
-read_kind_text read.Count = codes "Count"
-read_kind_text read.Limit = codes "Limit"
-
-abbrev pub valid_kind_text : ValidKind → List ℕ
-valid_kind_text valid.TypeIndex = codes "TypeIndex"
-valid_kind_text valid.FuncIndex = codes "FuncIndex"
-valid_kind_text valid.NoTable = codes "NoTable"
-valid_kind_text valid.NoMemory = codes "NoMemory"
-valid_kind_text valid.GlobalIndex = codes "GlobalIndex"
-valid_kind_text valid.LocalIndex = codes "LocalIndex"
-valid_kind_text valid.LabelIndex = codes "LabelIndex"
-valid_kind_text valid.Operand = codes "Operand"
-valid_kind_text valid.Immutable = codes "Immutable"
-valid_kind_text valid.Align = codes "Align"
-valid_kind_text valid.Constant = codes "Constant"
-valid_kind_text valid.Limits = codes "Limits"
-valid_kind_text valid.ExportName = codes "ExportName"
-valid_kind_text valid.StartType = codes "StartType"
-
-abbrev pub rule_kind_text : RuleKind → List ℕ
-rule_kind_text rule.Size = codes "Size"
-rule_kind_text rule.Header = codes "Header"
-rule_kind_text rule.Shape = codes "Shape"
-rule_kind_text rule.Many = codes "Many"
-rule_kind_text rule.Empty = codes "Empty"
-rule_kind_text rule.Word = codes "Word"
-rule_kind_text rule.Number = codes "Number"
-rule_kind_text rule.Quote = codes "Quote"
-rule_kind_text rule.Name = codes "Name"
-rule_kind_text rule.Twice = codes "Twice"
-rule_kind_text rule.Unbound = codes "Unbound"
-rule_kind_text rule.Reads = codes "Reads"
-rule_kind_text rule.Accepts = codes "Accepts"
-rule_kind_text rule.Guard = codes "Guard"
 
 abbrev pub record_kind_text : RecordKind → List ℕ
 record_kind_text record_kind.Magic = codes "Magic"
@@ -96,6 +31,16 @@ record_kind_text record_kind.Code = codes "Code"
 record_kind_text record_kind.Length = codes "Length"
 record_kind_text record_kind.Suit = codes "Suit"
 record_kind_text record_kind.Limit = codes "Limit"
+
+abbrev pub text_kind_text : TextKind → List ℕ
+text_kind_text text_kind.Size = codes "Size"
+text_kind_text text_kind.Word = codes "Word"
+text_kind_text text_kind.Place = codes "Place"
+text_kind_text text_kind.Count = codes "Count"
+text_kind_text text_kind.Quote = codes "Quote"
+text_kind_text text_kind.Number = codes "Number"
+text_kind_text text_kind.Nest = codes "Nest"
+text_kind_text text_kind.Unended = codes "Unended"
 
 -- ## Lines
 
@@ -139,6 +84,7 @@ finding_text path (BadRules fault) = fault_text path (rule_kind_text fault.kind)
 finding_text path (Rules count) = codes "rules " ++ (decimal count ++ line_feed)
 finding_text path (BadSchedule fault) = schedule_fault_text path fault
 finding_text path (BadLog fault) = fault_text path (record_kind_text fault.kind) (fault.place ∷ [])
+finding_text path (BadText fault) = fault_text path (text_kind_text fault.kind) (fault.line ∷ [])
 
 -- the end line of a run
 abbrev pub end_text : How → List ℕ
@@ -174,6 +120,8 @@ IsLine (LogFailed path h) text = text ≡ missing_text path
 IsLine (LogNotMade h) text = text ≡ no_memory_text
 IsLine (Audited illegal) text = text ≡ audit_text illegal
 IsLine (Shown entries) text = text ≡ log_text entries.list
+IsLine (Assembled bytes) text = text ≡ codes "bytes " ++ (decimal bytes ++ line_feed)
+IsLine (NotWritten path) text = text ≡ missing_text path
 
 -- ## Statuses
 
@@ -184,6 +132,7 @@ finding_status (BadRules fault) = 4
 finding_status (Rules count) = 0
 finding_status (BadSchedule fault) = 4
 finding_status (BadLog fault) = 4
+finding_status (BadText fault) = 4
 
 abbrev pub audit_status : Option ℕ → ℕ
 audit_status None = 0
@@ -200,6 +149,8 @@ status_of (LogFailed path h) = 3
 status_of (LogNotMade h) = 9
 status_of (Audited illegal) = audit_status illegal
 status_of (Shown entries) = 0
+status_of (Assembled bytes) = 0
+status_of (NotWritten path) = 3
 
 -- An ending shows by its status and its whole line; or by 7 where the sink failed, with a part of the line; or by 9 for
 -- want of memory, with nothing.

@@ -9,7 +9,10 @@ use Rattle.mv_inspect.specs.declared.auditing.Inspected.{Inspected}
 use Rattle.mv_inspect.specs.declared.auditing.Inspected.TheVariants as inspected
 use Rattle.mv_inspect.specs.declared.listing.Listed.{Listed}
 use Rattle.mv_inspect.specs.declared.listing.Listed.TheVariants as listed
+use Rattle.mv_commands.specs.Named.{IsAssembly, IsNoText}
 use Rattle.mv_commands.specs.Schedules.{schedule_of}
+use Rattle.mv_commands.specs.declared.assembling.Made.{Made}
+use Rattle.mv_commands.specs.declared.assembling.Made.TheVariants as made
 use Rattle.mv_commands.specs.declared.ending.Finding.{Finding}
 use Rattle.mv_commands.specs.declared.ending.Finding.TheVariants as finding
 use Rattle.mv_commands.specs.declared.ending.Ending.{Ending}
@@ -85,3 +88,17 @@ show_ending_by log listed.NoFile = ending.NoFile log
 show_ending_by log listed.NoMemory = ending.NoMemory
 show_ending_by log (listed.Refused fault) = ending.Found log (finding.BadLog fault)
 show_ending_by log (listed.Log args entries) = ending.Shown entries
+
+-- what the file of an assembler text is found to be
+abbrev pub IsMade : Option FileMap → List ℕ → ℕ → ℕ → Made → Type 0
+IsMade told path faults faults_now made.NoFile = IsMissing told path ⊎ Rose faults faults_now
+IsMade told path faults faults_now made.NoMemory = Unit {0}
+IsMade told path faults faults_now (made.Refused found) = FileIs told path (λ text. IsNoText text found)
+IsMade told path faults faults_now (made.Module file) = (text : List ℕ) × StandsAt told path text × IsAssembly text file.items
+
+-- what a text that was read is found to be
+abbrev pub IsMadeOf : List ℕ → Made → Type 0
+IsMadeOf text made.NoFile = ⊥
+IsMadeOf text made.NoMemory = Unit {0}
+IsMadeOf text (made.Refused found) = IsNoText text found
+IsMadeOf text (made.Module file) = IsAssembly text file.items

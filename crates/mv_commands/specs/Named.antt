@@ -13,6 +13,8 @@ use Rattle.mv_rules.specs.RulesText.{rules_in}
 use Rattle.mv_rulecheck.specs.Atoms.{AreKept, IsFirstUnkept}
 use Rattle.mv_outside.specs.Files.{FileMap}
 use Rattle.mv_record.specs.File.{log_of}
+use Rattle.mv_text.specs.Assembly.{assembled}
+use Rattle.mv_writer.specs.Written.{written}
 use Rattle.mv_inspect.specs.Audits.{AuditGoes, HasSomeLog, NotStarted, audit_files}
 use Rattle.mv_inspect.specs.Told.{StopsAmong}
 use Rattle.mv_guest.specs.Standing.{Standing}
@@ -22,7 +24,7 @@ use Rattle.mv_words.specs.declared.command.Command.{Command}
 use Rattle.mv_words.specs.declared.command.Command.TheVariants as ask
 use Rattle.mv_commands.specs.Schedules.{schedule_of}
 use Rattle.mv_commands.specs.declared.ending.Finding.{Finding}
-use Rattle.mv_commands.specs.declared.ending.Finding.TheVariants.{Refused, Valid, BadRules, Rules, BadSchedule, BadLog}
+use Rattle.mv_commands.specs.declared.ending.Finding.TheVariants.{Refused, Valid, BadRules, Rules, BadSchedule, BadLog, BadText}
 
 -- ## What a text is
 
@@ -86,6 +88,22 @@ abbrev pub IsRefusedBy : Option FileMap → List ℕ → List ℕ → Finding �
 IsRefusedBy told log text (Refused fault) = NotStarted told log text fault
 IsRefusedBy told log text finding = ⊥
 
+-- the text is that of a valid module, whose shortest spelling is this file
+pub record IsAssembly (text file : List ℕ) : Type 0 where
+  pub parts : Parts
+  pub is : assembled text ≡ Ok parts
+  pub valid : IsValid parts
+  pub file_is : file ≡ written parts
+
+abbrev pub IsText : List ℕ → Type 0
+IsText text = (file : List ℕ) × IsAssembly text file
+
+-- it is no assembler text, or the module that it is has this first fault
+abbrev pub IsNoText : List ℕ → Finding → Type 0
+IsNoText text (BadText fault) = assembled text ≡ Err fault
+IsNoText text (Refused (born.Valid fault)) = (parts : Parts) × (assembled text ≡ Ok parts) × IsFirstFaultOf parts fault
+IsNoText text finding = ⊥
+
 -- ## The files of a command, in the order in which they are read and judged
 
 abbrev pub files_of : Command → List (List ℕ)
@@ -96,6 +114,7 @@ files_of (ask.Check path) = path ∷ []
 files_of (ask.Rules forward) = forward ∷ []
 files_of (ask.Audit log old updates) = audit_files log old updates
 files_of (ask.Show log) = log ∷ []
+files_of (ask.Assemble text to) = text ∷ []
 files_of ask.Help = []
 files_of ask.Version = []
 
@@ -111,6 +130,7 @@ FoundAt (ask.Audit log old updates) told zero text finding = IsNoLog text findin
 FoundAt (ask.Audit log old updates) told (suc zero) text finding = IsRefusedBy told log text finding
 FoundAt (ask.Audit log old updates) told (suc (suc n)) text finding = ⊥
 FoundAt (ask.Show log) told n text finding = IsNoLog text finding
+FoundAt (ask.Assemble from to) told n text finding = IsNoText text finding
 FoundAt ask.Help told n text finding = ⊥
 FoundAt ask.Version told n text finding = ⊥
 
@@ -124,6 +144,7 @@ GoesOn (ask.Check path) told n text = ⊥
 GoesOn (ask.Rules forward) told n text = ⊥
 GoesOn (ask.Audit log old updates) told n text = AuditGoes told log n text
 GoesOn (ask.Show log) told n text = HasSomeLog text
+GoesOn (ask.Assemble from to) told n text = IsText text
 GoesOn ask.Help told n text = ⊥
 GoesOn ask.Version told n text = ⊥
 

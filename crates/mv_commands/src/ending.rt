@@ -5,6 +5,7 @@ use mv_history::{Entries, How};
 use mv_record::RecordFault;
 use mv_rules::RuleFault;
 use mv_syntax::BornFault;
+use mv_text::TextFault;
 
 /// Why a schedule is refused.
 #[derive(Clone, Copy, PartialEq, Eq, Debug)]
@@ -30,6 +31,8 @@ pub enum Finding {
     BadSchedule(ScheduleFault),
     /// It isn't the file of a log.
     BadLog(RecordFault),
+    /// It isn't an assembler text.
+    BadText(TextFault),
 }
 
 /// What came of a command line. One row of the table of statuses each (docs/GUIDE.md, "Statuses").
@@ -53,6 +56,10 @@ pub enum Ending {
     LogNotMade(How),
     /// The log is legal; or its first entry that may not come has this number, from 0.
     Audited { illegal: Option<u64> },
+    /// A text was assembled, and its module's file has so many bytes.
+    Assembled { bytes: u64 },
+    /// A text was assembled, and the module couldn't be written to the file of this path.
+    NotWritten { path: Bytes },
     /// The entries of a log, to be shown.
     Shown { entries: Entries },
 }

@@ -1,98 +1,15 @@
 //! The lines of faults of files: the kind by its name, and where it stands (docs/FORMATS.md, "Fault lines").
 ghost use Rattle.std.specs.Prelude.{◌≡◌, [], ◌++◌, ◌∷◌, IfOk, OnOk, decimal};
-ghost use Rattle.mv_commands.specs.Lines.{trap_text, read_kind_text, valid_kind_text, rule_kind_text, record_kind_text, fault_text, numbers_text, refusal_text, start_fault_text, schedule_fault_text, finding_text};
+ghost use Rattle.mv_commands.specs.Lines.{record_kind_text, text_kind_text, fault_text, numbers_text, refusal_text, start_fault_text, schedule_fault_text, finding_text};
 
 use crate::ending::{Finding, ScheduleFault};
 use itoa::Buffer;
-use mv_calls::{Bytes, OutOfMemory, Trap};
+use mv_calls::{Bytes, OutOfMemory};
 use mv_record::RecordKind;
-use mv_rules::RuleKind;
-use mv_syntax::{BornFault, ReadKind, StartFault, ValidKind};
+use mv_show::{read_kind_name, rule_kind_name, trap_name, valid_kind_name};
+use mv_syntax::{BornFault, StartFault};
+use mv_text::TextKind;
 use std::alloc::Global;
-
-/// The name of a trap.
-pub fn trap_name(trap: Trap) -> &'static str
-    ensures { result.now ≡ trap_text trap }
-{
-    match trap {
-        Trap::Unreachable => "Unreachable",
-        Trap::DivideByZero => "DivideByZero",
-        Trap::Overflow => "Overflow",
-        Trap::Bounds => "Bounds",
-        Trap::TableIndex => "TableIndex",
-        Trap::EmptyElement => "EmptyElement",
-        Trap::IndirectType => "IndirectType",
-        Trap::Frames => "Frames",
-        Trap::Operands => "Operands",
-        Trap::Spent => "Spent",
-        Trap::OldGlobal => "OldGlobal",
-        Trap::NotNow => "NotNow",
-        Trap::CallInTransform => "CallInTransform",
-    }
-}
-
-/// The name of a kind of fault of a module's bytes.
-fn read_kind_name(kind: ReadKind) -> &'static str
-    ensures { result.now ≡ read_kind_text kind }
-{
-    match kind {
-        ReadKind::Magic => "Magic",
-        ReadKind::Cut => "Cut",
-        ReadKind::Order => "Order",
-        ReadKind::Size => "Size",
-        ReadKind::Leb => "Leb",
-        ReadKind::Utf8 => "Utf8",
-        ReadKind::Kind => "Kind",
-        ReadKind::Float => "Float",
-        ReadKind::LaterFeature => "LaterFeature",
-        ReadKind::Count => "Count",
-        ReadKind::Limit => "Limit",
-    }
-}
-
-/// The name of a kind of fault of a module.
-fn valid_kind_name(kind: ValidKind) -> &'static str
-    ensures { result.now ≡ valid_kind_text kind }
-{
-    match kind {
-        ValidKind::TypeIndex => "TypeIndex",
-        ValidKind::FuncIndex => "FuncIndex",
-        ValidKind::NoTable => "NoTable",
-        ValidKind::NoMemory => "NoMemory",
-        ValidKind::GlobalIndex => "GlobalIndex",
-        ValidKind::LocalIndex => "LocalIndex",
-        ValidKind::LabelIndex => "LabelIndex",
-        ValidKind::Operand => "Operand",
-        ValidKind::Immutable => "Immutable",
-        ValidKind::Align => "Align",
-        ValidKind::Constant => "Constant",
-        ValidKind::Limits => "Limits",
-        ValidKind::ExportName => "ExportName",
-        ValidKind::StartType => "StartType",
-    }
-}
-
-/// The name of a kind of fault of a rules file.
-fn rule_kind_name(kind: RuleKind) -> &'static str
-    ensures { result.now ≡ rule_kind_text kind }
-{
-    match kind {
-        RuleKind::Size => "Size",
-        RuleKind::Header => "Header",
-        RuleKind::Shape => "Shape",
-        RuleKind::Many => "Many",
-        RuleKind::Empty => "Empty",
-        RuleKind::Word => "Word",
-        RuleKind::Number => "Number",
-        RuleKind::Quote => "Quote",
-        RuleKind::Name => "Name",
-        RuleKind::Twice => "Twice",
-        RuleKind::Unbound => "Unbound",
-        RuleKind::Reads => "Reads",
-        RuleKind::Accepts => "Accepts",
-        RuleKind::Guard => "Guard",
-    }
-}
 
 /// The name of a kind of fault of a log file.
 fn record_kind_name(kind: RecordKind) -> &'static str
@@ -105,6 +22,22 @@ fn record_kind_name(kind: RecordKind) -> &'static str
         RecordKind::Length => "Length",
         RecordKind::Suit => "Suit",
         RecordKind::Limit => "Limit",
+    }
+}
+
+/// The name of a kind of fault of an assembler text.
+fn text_kind_name(kind: TextKind) -> &'static str
+    ensures { result.now ≡ text_kind_text kind }
+{
+    match kind {
+        TextKind::Size => "Size",
+        TextKind::Word => "Word",
+        TextKind::Place => "Place",
+        TextKind::Count => "Count",
+        TextKind::Quote => "Quote",
+        TextKind::Number => "Number",
+        TextKind::Nest => "Nest",
+        TextKind::Unended => "Unended",
     }
 }
 
@@ -226,6 +159,10 @@ pub fn finding_line(alloc: Global, path: &Bytes, finding: Finding) -> Result<Vec
             Ok(line)
         }
         Finding::BadSchedule(fault) => schedule_fault_line(alloc, path, fault),
+        Finding::BadText(fault) => {
+            let line = u64::from(fault.line);
+            fault_line(alloc, path, text_kind_name(fault.kind), &[line])
+        }
         Finding::BadLog(fault) => {
             fault_line(alloc, path, record_kind_name(fault.kind), &[fault.place])
         }

@@ -1,6 +1,7 @@
 //! The commands of the program: from the words of a command line to a status and its line.
 #![tactic(auto)]
 
+mod assembling;
 mod carrying;
 mod ending;
 mod fault_lines;

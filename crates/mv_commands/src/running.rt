@@ -7,6 +7,7 @@ ghost use Rattle.mv_words.specs.declared.command.Command.TheVariants as ask;
 ghost use Rattle.mv_commands.specs.Causes.{CauseOf, IsFeasible, IsOnOneThread, IsRehearsal, seen_of};
 ghost use Rattle.mv_commands.specs.Loading.{audit_ending_by, ending_by, show_ending_by};
 
+use crate::assembling::assemble_asked;
 use crate::ending::{Ending, Finding};
 use crate::judging::{Judged, module_at, rules_at};
 use crate::keeping::{how_of, keep_log};
@@ -311,6 +312,9 @@ pub fn did<K: Kernel, C: Console, F: Files>(
                 console,
                 files,
             )
+        }
+        Command::Assemble { text, to } => {
+            assemble_asked(alloc, text, to, kernel, console, files)
         }
         Command::Show { log } => {
             let listed = log_at(alloc, &log, &mut files);

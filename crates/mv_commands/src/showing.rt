@@ -1,14 +1,14 @@
 //! The one line that a command prints, and its status.
-ghost use Rattle.std.specs.Prelude.{◌≡◌, IfOk, List, ℕ};
+ghost use Rattle.std.specs.Prelude.{◌≡◌, ◌++◌, codes, decimal, IfOk, List, ℕ};
 ghost use Rattle.mv_rehearse.specs.Runs.{end_status};
-ghost use Rattle.mv_commands.specs.Lines.{IsLine, Shows, audit_text, end_text, finding_status, missing_text, status_of};
+ghost use Rattle.mv_commands.specs.Lines.{IsLine, Shows, audit_text, line_feed, end_text, finding_status, missing_text, status_of};
 
 use crate::ending::{Ending, Finding};
-use crate::fault_lines::{add_number, finding_line, trap_name};
+use crate::fault_lines::{add_number, finding_line};
 use mv_calls::{Bytes, Or, OutOfMemory};
 use mv_history::How;
 use mv_outside::Sink;
-use mv_show::log_lines;
+use mv_show::{log_lines, trap_name};
 use std::alloc::Global;
 
 /// The status where a call of the sink failed.
@@ -25,6 +25,7 @@ mv check MODULE\n\
 mv rules FWD\n\
 mv audit LOG OLD [M FWD REV ..]\n\
 mv show LOG\n\
+mv assemble TEXT OUT\n\
 run, rehearse and serve: [--listen ADDRESS] [--console ADDRESS]\n";
 
 /// The line of a file that is missing.
@@ -77,6 +78,16 @@ fn audit_line(alloc: Global, illegal: Option<u64>) -> Result<Vec<u8>, OutOfMemor
     }
 }
 
+/// The line of a text that was assembled.
+fn bytes_line(alloc: Global, bytes: u64) -> Result<Vec<u8>, OutOfMemory>
+    ensures { IfOk result (λ line. line.items ≡ codes "bytes " ++ (decimal bytes ++ line_feed)) }
+{
+    let mut line = Vec::from_slice(alloc, b"bytes ")?;
+    add_number(&mut line, bytes)?;
+    line.push(b'\n')?;
+    Ok(line)
+}
+
 /// The line that says an ending.
 fn line(alloc: Global, ending: &Ending) -> Result<Vec<u8>, OutOfMemory>
     ensures { IfOk result (λ line. IsLine ending.now line.items) }
@@ -92,6 +103,8 @@ fn line(alloc: Global, ending: &Ending) -> Result<Vec<u8>, OutOfMemory>
         Ending::LogNotMade(_) => Ok(Vec::from_slice(alloc, b"no memory\n")?),
         Ending::Audited { illegal } => audit_line(alloc, *illegal),
         Ending::Shown { entries } => log_lines(alloc, entries.slice()),
+        Ending::Assembled { bytes } => bytes_line(alloc, *bytes),
+        Ending::NotWritten { path } => missing_line(alloc, path),
     }
 }
 
@@ -100,8 +113,11 @@ fn found_status(finding: Finding) -> u8
     ensures { result ≡ finding_status finding }
 {
     match finding {
-        Finding::Refused(_) | Finding::BadRules(_) | Finding::BadSchedule(_) | Finding::BadLog(_) =>
-            4,
+        Finding::Refused(_)
+        | Finding::BadRules(_)
+        | Finding::BadSchedule(_)
+        | Finding::BadLog(_)
+        | Finding::BadText(_) => 4,
         Finding::Valid | Finding::Rules(_) => 0,
     }
 }
@@ -136,6 +152,8 @@ fn status(ending: &Ending) -> u8
         Ending::Audited { illegal: None } => 0,
         Ending::Audited { illegal: Some(_) } => 8,
         Ending::Shown { .. } => 0,
+        Ending::Assembled { .. } => 0,
+        Ending::NotWritten { .. } => 3,
     }
 }
 

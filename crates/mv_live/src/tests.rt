@@ -652,6 +652,39 @@ fn a_log_is_kept_audited_and_shown(rt: HostRuntime) -> Result<(), Fail> {
     Ok(())
 }
 
+#[test]
+fn a_text_is_assembled(rt: HostRuntime) -> Result<(), Fail> {
+    let alloc = rt.alloc();
+    let named = [
+        ("text", b"memory 1\n".as_slice()),
+        ("nest", b"type ->\nfunc 0\nend\nendfunc\n".as_slice()),
+        ("unvalid", b"export \"m\" memory 0\n".as_slice()),
+    ];
+    let order = "status";
+    let said = ["assemble", "text", "out"];
+    let mut left = carried(alloc, &said, order, files(&rt, alloc, &named, None)?)?;
+    assert!(rt; left.status == 0 && left.printed.as_slice() == b"bytes 13\n".as_slice());
+    assert!(rt;
+        left.files.content(b"out") == Some(b"\0asm\x01\0\0\0\x05\x03\x01\x00\x01".as_slice())
+    );
+    let rows: [(&[&str], u8, &[u8]); 4] = [
+        (&["check", "out"], 0, b"valid\n"),
+        (&["assemble", "nest", "out"], 4, b"mv: nest: Nest 3\n"),
+        (
+            &["assemble", "unvalid", "other"],
+            4,
+            b"mv: unvalid: NoMemory 7 0 0\n",
+        ),
+        (&["check", "other"], 3, b"mv: file other\n"),
+    ];
+    for (said, status, printed) in rows {
+        let row = carried(alloc, said, order, left.files)?;
+        assert!(rt; row.status == status && row.printed.as_slice() == printed);
+        left = row;
+    }
+    Ok(())
+}
+
 /// What the program showed on these words, with two threads where it takes them.
 fn of_program<R: Threads + Wait + Sync>(
     rt: &R,

@@ -6,7 +6,7 @@ use Rattle.mv_scan.specs.Numbers.{decimal}
 use Rattle.mv_words.specs.Words.{Text, Part, parts, free, places}
 use Rattle.mv_words.specs.Commands.{option_names, Gives, IsLog, IsRing, Asks, IsAsked, IsCommandWord, Says, Values, values_in}
 use Rattle.mv_words.specs.declared.command.Command.{Command}
-use Rattle.mv_words.specs.declared.command.Command.TheVariants.{Run, Rehearse, Serve, Check, Rules, Audit, Show, Help, Version}
+use Rattle.mv_words.specs.declared.command.Command.TheVariants.{Run, Rehearse, Serve, Check, Rules, Audit, Show, Assemble, Help, Version}
 
 head_is : (a b : Text) (xs ys : List Text) → a ∷ xs ≡ b ∷ ys → a ≡ b
 head_is a b xs ys e = cc
@@ -64,13 +64,18 @@ abbrev show_in : List Text → Option Command
 show_in [] = None
 show_in (log ∷ more) = Some (Show log)
 
-abbrev choice : Text → (run rehearsal service check rules audit show : Option Command) → Option Command
-choice word run rehearsal service check rules audit show =
+abbrev assembly_in : List Text → Option Command
+assembly_in [] = None
+assembly_in (text ∷ []) = None
+assembly_in (text ∷ to ∷ more) = Some (Assemble text to)
+
+abbrev choice : Text → (run rehearsal service check rules audit show assembly : Option Command) → Option Command
+choice word run rehearsal service check rules audit show assembly =
     if bytes_eq word (codes "run") then run else (if bytes_eq word (codes "rehearse") then rehearsal else (if bytes_eq word (codes "serve") then service else (if bytes_eq word (codes "check") then check
-    else (if bytes_eq word (codes "rules") then rules else (if bytes_eq word (codes "audit") then audit else show)))))
+    else (if bytes_eq word (codes "rules") then rules else (if bytes_eq word (codes "audit") then audit else (if bytes_eq word (codes "show") then show else assembly))))))
 
 abbrev asked : Text → ℕ → Option Text → List Text → Option Command
-asked word ring log placed = choice word (run_in placed) (rehearsal_in ring log placed) (service_in ring log placed) (check_in placed) (rules_in placed) (audit_in placed) (show_in placed)
+asked word ring log placed = choice word (run_in placed) (rehearsal_in ring log placed) (service_in ring log placed) (check_in placed) (rules_in placed) (audit_in placed) (show_in placed) (assembly_in placed)
 
 abbrev command_in : Text → Values → List Text → Option Command
 command_in word values placed = asked word (ring_in values.rings) (log_in values.logs) placed
@@ -88,6 +93,7 @@ computed word values placed (Check path) asks = asked_by word _ _ placed _ _ _ _
 computed word values placed (Rules forward) asks = asked_by word _ _ placed _ _ _ _ _ asks.0 refl refl asks.2 refl
 computed word values placed (Audit log old updates) asks = asked_by word _ _ placed _ _ _ _ _ asks.0 refl refl asks.2 refl
 computed word values placed (Show log) asks = asked_by word _ _ placed _ _ _ _ _ asks.0 refl refl asks.2 refl
+computed word values placed (Assemble text to) asks = asked_by word _ _ placed _ _ _ _ _ asks.0 refl refl asks.2 refl
 computed word values placed Help asks = absurd asks
 computed word values placed Version asks = absurd asks
 
@@ -134,7 +140,8 @@ command_word word values placed (Serve old args ring log) asks = inr (inr (inl a
 command_word word values placed (Check path) asks = inr (inr (inr (inl asks.0)))
 command_word word values placed (Rules forward) asks = inr (inr (inr (inr (inl asks.0))))
 command_word word values placed (Audit log old updates) asks = inr (inr (inr (inr (inr (inl asks.0)))))
-command_word word values placed (Show log) asks = inr (inr (inr (inr (inr (inr asks.0)))))
+command_word word values placed (Show log) asks = inr (inr (inr (inr (inr (inr (inl asks.0))))))
+command_word word values placed (Assemble text to) asks = inr (inr (inr (inr (inr (inr (inr asks.0))))))
 command_word word values placed Help asks = absurd asks
 command_word word values placed Version asks = absurd asks
 
@@ -145,7 +152,8 @@ help_no_word word e (inr (inr (inl is))) = let bad : codes "--help" ≡ codes "s
 help_no_word word e (inr (inr (inr (inl is)))) = let bad : codes "--help" ≡ codes "check" = sym e ∙ is in absurd cc
 help_no_word word e (inr (inr (inr (inr (inl is))))) = let bad : codes "--help" ≡ codes "rules" = sym e ∙ is in absurd cc
 help_no_word word e (inr (inr (inr (inr (inr (inl is)))))) = let bad : codes "--help" ≡ codes "audit" = sym e ∙ is in absurd cc
-help_no_word word e (inr (inr (inr (inr (inr (inr is)))))) = let bad : codes "--help" ≡ codes "show" = sym e ∙ is in absurd cc
+help_no_word word e (inr (inr (inr (inr (inr (inr (inl is))))))) = let bad : codes "--help" ≡ codes "show" = sym e ∙ is in absurd cc
+help_no_word word e (inr (inr (inr (inr (inr (inr (inr is))))))) = let bad : codes "--help" ≡ codes "assemble" = sym e ∙ is in absurd cc
 
 version_no_word : (word : Text) → word ≡ codes "--version" → IsCommandWord word → ⊥
 version_no_word word e (inl is) = let bad : codes "--version" ≡ codes "run" = sym e ∙ is in absurd cc
@@ -154,7 +162,8 @@ version_no_word word e (inr (inr (inl is))) = let bad : codes "--version" ≡ co
 version_no_word word e (inr (inr (inr (inl is)))) = let bad : codes "--version" ≡ codes "check" = sym e ∙ is in absurd cc
 version_no_word word e (inr (inr (inr (inr (inl is))))) = let bad : codes "--version" ≡ codes "rules" = sym e ∙ is in absurd cc
 version_no_word word e (inr (inr (inr (inr (inr (inl is)))))) = let bad : codes "--version" ≡ codes "audit" = sym e ∙ is in absurd cc
-version_no_word word e (inr (inr (inr (inr (inr (inr is)))))) = let bad : codes "--version" ≡ codes "show" = sym e ∙ is in absurd cc
+version_no_word word e (inr (inr (inr (inr (inr (inr (inl is))))))) = let bad : codes "--version" ≡ codes "show" = sym e ∙ is in absurd cc
+version_no_word word e (inr (inr (inr (inr (inr (inr (inr is))))))) = let bad : codes "--version" ≡ codes "assemble" = sym e ∙ is in absurd cc
 
 help_asks_nothing : (words : List Text) (c : Command) → Says words Help → IsAsked words c → ⊥
 help_asks_nothing words c (inl is) asked = help_no_word asked.word (head_is _ _ _ _ (sym asked.words_are ∙ is)) (command_word _ _ _ c asked.asks)
@@ -181,6 +190,7 @@ three words (Check path) says = inl says
 three words (Rules forward) says = inl says
 three words (Audit log old updates) says = inl says
 three words (Show log) says = inl says
+three words (Assemble text to) says = inl says
 three words Help says = inr (inl (refl, says))
 three words Version says = inr (inr (refl, says))
 

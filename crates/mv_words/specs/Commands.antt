@@ -3,7 +3,7 @@ use Rattle.std.specs.Prelude.{◌≡◌, ◌≤◌, ◌⊎◌, ℕ, List, [], �
 use Rattle.mv_scan.specs.Numbers.{decimal}
 use Rattle.mv_words.specs.Words.{Text, Part, parts, free, values_of, places}
 use Rattle.mv_words.specs.declared.command.Command.{Command}
-use Rattle.mv_words.specs.declared.command.Command.TheVariants.{Run, Rehearse, Serve, Check, Rules, Audit, Show, Help, Version}
+use Rattle.mv_words.specs.declared.command.Command.TheVariants.{Run, Rehearse, Serve, Check, Rules, Audit, Show, Assemble, Help, Version}
 use Rattle.mv_words.specs.declared.addresses.Addresses.{Addresses}
 
 -- the options that there are; where a command has no such option, it stands nowhere
@@ -86,6 +86,7 @@ Asks word values placed (Check path) = (word ≡ codes "check") × HasNone value
 Asks word values placed (Rules forward) = (word ≡ codes "rules") × HasNone values × (placed ≡ forward ∷ [])
 Asks word values placed (Audit log old updates) = (word ≡ codes "audit") × HasNone values × (placed ≡ log ∷ old ∷ updates) × AreInThrees updates
 Asks word values placed (Show log) = (word ≡ codes "show") × HasNone values × (placed ≡ log ∷ [])
+Asks word values placed (Assemble text to) = (word ≡ codes "assemble") × HasNone values × (placed ≡ text ∷ to ∷ [])
 Asks word values placed Help = ⊥
 Asks word values placed Version = ⊥
 
@@ -101,7 +102,7 @@ pub record IsAsked (words : List Text) (command : Command) : Type 0 where
 
 abbrev pub IsCommandWord : Text → Type 0
 IsCommandWord word =
-    (word ≡ codes "run") ⊎ ((word ≡ codes "rehearse") ⊎ ((word ≡ codes "serve") ⊎ ((word ≡ codes "check") ⊎ ((word ≡ codes "rules") ⊎ ((word ≡ codes "audit") ⊎ (word ≡ codes "show"))))))
+    (word ≡ codes "run") ⊎ ((word ≡ codes "rehearse") ⊎ ((word ≡ codes "serve") ⊎ ((word ≡ codes "check") ⊎ ((word ≡ codes "rules") ⊎ ((word ≡ codes "audit") ⊎ ((word ≡ codes "show") ⊎ (word ≡ codes "assemble")))))))
 
 -- the words of each command, the command word first
 abbrev pub Says : List Text → Command → Type 0

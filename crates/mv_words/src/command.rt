@@ -44,6 +44,11 @@ pub enum Command {
     Show {
         log: Bytes,
     },
+    /// `assemble TEXT OUT`.
+    Assemble {
+        text: Bytes,
+        to: Bytes,
+    },
     /// `--help`, alone or behind a command word.
     Help,
     /// `--version`, alone.

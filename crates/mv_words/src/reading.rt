@@ -65,6 +65,7 @@ fn is_command_word(word: &str) -> bool
         || word == "rules"
         || word == "audit"
         || word == "show"
+        || word == "assemble"
 }
 
 /// The forms of words that ask what the program is.
@@ -120,6 +121,9 @@ fn plain_command_of(alloc: Global, word: &str, given: &Given<'_>) -> Result<Comm
     if word == "audit" {
         return audit_of(alloc, given);
     }
+    if word == "assemble" {
+        return assembly_of(alloc, given);
+    }
     let Some(path) = only_place(given.places.as_slice()) else {
         return Err(Or::Fault(BadWords));
     };
@@ -153,6 +157,18 @@ fn only_place<'a>(places: &[&'a str]) -> Option<&'a str>
 {
     if places.len() == 1 {
         Some(places[0])
+    } else {
+        None
+    }
+}
+
+/// The two words, where there are two.
+fn two_places<'a>(places: &[&'a str]) -> Option<(&'a str, &'a str)>
+    ensures some { IfSome result (λ two. map (λ a. a.now) places.now ≡ two.0.now ∷ two.1.now ∷ []) }
+    ensures none { result ≡ None → (first second : Text) → map (λ a. a.now) places.now ≡ first ∷ second ∷ [] → ⊥ }
+{
+    if places.len() == 2 {
+        Some((places[0], places[1]))
     } else {
         None
     }
@@ -248,6 +264,20 @@ fn audit_of(alloc: Global, given: &Given<'_>) -> Result<Command, Or<BadWords>>
     let old = Bytes::from_slice(alloc, places[1].as_bytes())?;
     let updates = copies_of(alloc, &places[2..])?;
     Ok(Command::Audit { log, old, updates })
+}
+
+/// What `assemble` asks for.
+fn assembly_of(alloc: Global, given: &Given<'_>) -> Result<Command, Or<BadWords>>
+    requires { HasNone (values_of_options given.now.options) }
+    ensures ok { IfOk result (λ command. Asks (codes "assemble") (values_of_options given.now.options) (map (λ a. a.now) given.now.places.items) command) }
+    ensures bad { IsErrOf result (or.Fault (record {})) → (command : Asked) → Asks (codes "assemble") (values_of_options given.now.options) (map (λ a. a.now) given.now.places.items) command → ⊥ }
+{
+    let Some((text, to)) = two_places(given.places.as_slice()) else {
+        return Err(Or::Fault(BadWords));
+    };
+    let text = Bytes::from_slice(alloc, text.as_bytes())?;
+    let to = Bytes::from_slice(alloc, to.as_bytes())?;
+    Ok(Command::Assemble { text, to })
 }
 
 /// The file for the log, where one is given.

@@ -102,6 +102,13 @@ fn words_in_the_grammar(rt: HostRuntime) -> Result<(), Fail> {
             Ok(Command::Show { .. })
         )
     );
+    let words = texts(alloc, &["assemble", "text", "out"])?;
+    assert!(rt;
+        matches!(
+            read_words(alloc, words.as_slice()),
+            Ok(Command::Assemble { .. })
+        )
+    );
     let words = texts(alloc, &["check", "--help"])?;
     assert!(rt; matches!(read_words(alloc, words.as_slice()), Ok(Command::Help)));
     Ok(())
@@ -109,7 +116,7 @@ fn words_in_the_grammar(rt: HostRuntime) -> Result<(), Fail> {
 
 #[test]
 fn words_outside_the_grammar(rt: HostRuntime) -> Result<(), Fail> {
-    let rows: [&[&str]; 17] = [
+    let rows: [&[&str]; 18] = [
         &[],
         &["jump"],
         &["run"],
@@ -127,6 +134,7 @@ fn words_outside_the_grammar(rt: HostRuntime) -> Result<(), Fail> {
         &["serve", "old", "--listen=a:1", "--listen=a:1"],
         &["audit", "log", "old", "new", "none"],
         &["show", "log", "--console=b:2"],
+        &["assemble", "text"],
     ];
     for words in rows {
         assert!(rt; are_refused(rt.alloc(), words)?);
