@@ -10,6 +10,7 @@ use mv_outside::{
     FileAt, Files, Found, FreeGate, MemConsole, MemFiles, Sink, VecSink, paths_differ,
 };
 use mv_reader::read_module;
+use mv_text::assemble;
 use mv_writer::write_module;
 use std::alloc::{AllocError, Global};
 use std::io;
@@ -364,6 +365,127 @@ fn every_opcode_is_read_and_written(rt: HostRuntime) -> Result<(), Fail> {
     let module = read_module(rt.alloc(), bytes.as_slice())?;
     let written = write_module(rt.alloc(), &module)?;
     assert!(rt; written.as_slice() == bytes.as_slice());
+    Ok(())
+}
+
+/// The text of the same module, with the names of the standard's index.
+const NAMES: &str = "\
+type ->
+func 0
+unreachable
+nop
+block
+end
+loop i32
+end
+if i64
+else
+end
+br 0
+br_if 0
+br_table 0 0
+return
+call 0
+call_indirect 0
+drop
+select
+local.get 0
+local.set 0
+local.tee 0
+global.get 0
+global.set 0
+i32.load 2 0
+i64.load 3 0
+i32.load8_s 0 0
+i32.load8_u 0 0
+i32.load16_s 1 0
+i32.load16_u 1 0
+i64.load8_s 0 0
+i64.load8_u 0 0
+i64.load16_s 1 0
+i64.load16_u 1 0
+i64.load32_s 2 0
+i64.load32_u 2 0
+i32.store 2 0
+i64.store 3 0
+i32.store8 0 0
+i32.store16 1 0
+i64.store8 0 0
+i64.store16 1 0
+i64.store32 2 0
+memory.size
+memory.grow
+i32.const -1
+i64.const 128
+i32.eqz
+i32.eq
+i32.ne
+i32.lt_s
+i32.lt_u
+i32.gt_s
+i32.gt_u
+i32.le_s
+i32.le_u
+i32.ge_s
+i32.ge_u
+i64.eqz
+i64.eq
+i64.ne
+i64.lt_s
+i64.lt_u
+i64.gt_s
+i64.gt_u
+i64.le_s
+i64.le_u
+i64.ge_s
+i64.ge_u
+i32.clz
+i32.ctz
+i32.popcnt
+i32.add
+i32.sub
+i32.mul
+i32.div_s
+i32.div_u
+i32.rem_s
+i32.rem_u
+i32.and
+i32.or
+i32.xor
+i32.shl
+i32.shr_s
+i32.shr_u
+i32.rotl
+i32.rotr
+i64.clz
+i64.ctz
+i64.popcnt
+i64.add
+i64.sub
+i64.mul
+i64.div_s
+i64.div_u
+i64.rem_s
+i64.rem_u
+i64.and
+i64.or
+i64.xor
+i64.shl
+i64.shr_s
+i64.shr_u
+i64.rotl
+i64.rotr
+i32.wrap_i64
+i64.extend_i32_s
+i64.extend_i32_u
+endfunc
+";
+
+#[test]
+fn each_name_has_its_opcode(rt: HostRuntime) -> Result<(), Fail> {
+    let module = assemble(rt.alloc(), NAMES.as_bytes())?;
+    let written = write_module(rt.alloc(), &module)?;
+    assert!(rt; written.as_slice() == every_opcode(rt.alloc())?.as_slice());
     Ok(())
 }
 
