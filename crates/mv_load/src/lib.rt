@@ -2,7 +2,7 @@
 #![tactic(auto)]
 
 mod guests;
-#[cfg(test)]
-mod tests;
+mod script;
 
 pub use guests::{Demo, guest_text};
+pub use script::{MOST_CONNECTIONS, load_beats, load_lines, load_script};
