@@ -32,8 +32,8 @@ use Rattle.mv_commands.specs.Loading.{audit_ending_by, show_ending_by}
 use Rattle.mv_words.proofs.OneReading.{one_reading}
 use Rattle.mv_commands.specs.Causes.{AssemblyOf, WroteAlone, Known, IsOnOneThread, IsKept, IsLegal, Keeps, KeepsFiles, RanFor, RunOf, Seen, NoGuest, CauseOf, HasCause, IsBegun, IsFeasible, IsRun, output_of}
 use Rattle.mv_commands.specs.Keeping.{SaysHow}
-use Rattle.mv_commands.specs.Schedules.{schedule_of}
-use Rattle.mv_commands.specs.declared.ending.ScheduleFault.{ScheduleFault}
+use Rattle.mv_schedule.specs.Schedules.{schedule_of}
+use Rattle.mv_schedule.specs.declared.schedule.ScheduleFault.{ScheduleFault}
 use Rattle.mv_commands.specs.declared.ending.Ending.{Ending}
 use Rattle.mv_commands.specs.declared.ending.Ending.TheVariants as ending_is
 use Rattle.mv_commands.specs.declared.ending.Finding.{Finding}

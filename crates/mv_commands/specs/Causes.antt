@@ -25,7 +25,7 @@ use Rattle.mv_inspect.specs.Logs.{HasLog}
 use Rattle.mv_inspect.specs.Told.{FileIs, IsMissing, StandsAt}
 use Rattle.mv_commands.specs.Lines.{Shows, audit_status, finding_status}
 use Rattle.mv_commands.specs.Named.{FoundAt, GoesOn, IsAssembly, IsText, StopsAt, files_of}
-use Rattle.mv_commands.specs.Schedules.{schedule_of}
+use Rattle.mv_schedule.specs.Schedules.{schedule_of}
 use Rattle.mv_commands.specs.declared.ending.Finding.{Finding}
 use Rattle.mv_commands.specs.declared.ending.Ending.{Ending}
 use Rattle.mv_commands.specs.declared.ending.Ending.TheVariants.{BadWords, NoMemory, Told, NoFile, Found, Ran, LogFailed, LogNotMade, Audited, Shown, Assembled, NotWritten}

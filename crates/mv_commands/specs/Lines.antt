@@ -15,8 +15,8 @@ use Rattle.mv_history.specs.declared.log.How.TheVariants as how
 use Rattle.mv_rehearse.specs.Runs.{end_status}
 use Rattle.mv_outside.specs.Causes.{Rose}
 use Rattle.mv_outside.specs.Told.{told_more, AddsPart}
-use Rattle.mv_commands.specs.declared.ending.ScheduleFault.{ScheduleFault}
-use Rattle.mv_commands.specs.declared.ending.ScheduleFault.TheVariants.{Letter, Limit}
+use Rattle.mv_schedule.specs.declared.schedule.ScheduleFault.{ScheduleFault}
+use Rattle.mv_schedule.specs.declared.schedule.ScheduleFault.TheVariants.{Letter, Limit}
 use Rattle.mv_commands.specs.declared.ending.Finding.{Finding}
 use Rattle.mv_commands.specs.declared.ending.Finding.TheVariants.{Refused, Valid, BadRules, Rules, BadSchedule, BadLog, BadText}
 use Rattle.mv_commands.specs.declared.ending.Ending.{Ending}

@@ -22,7 +22,7 @@ use Rattle.mv_transform.specs.Births.{started}
 use Rattle.mv_rehearse.specs.declared.beats.Beat.{Beat}
 use Rattle.mv_words.specs.declared.command.Command.{Command}
 use Rattle.mv_words.specs.declared.command.Command.TheVariants as ask
-use Rattle.mv_commands.specs.Schedules.{schedule_of}
+use Rattle.mv_schedule.specs.Schedules.{schedule_of}
 use Rattle.mv_commands.specs.declared.ending.Finding.{Finding}
 use Rattle.mv_commands.specs.declared.ending.Finding.TheVariants.{Refused, Valid, BadRules, Rules, BadSchedule, BadLog, BadText}
 

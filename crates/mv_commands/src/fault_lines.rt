@@ -2,7 +2,7 @@
 ghost use Rattle.std.specs.Prelude.{◌≡◌, [], ◌++◌, ◌∷◌, IfOk, OnOk, decimal};
 ghost use Rattle.mv_commands.specs.Lines.{record_kind_text, text_kind_text, fault_text, numbers_text, refusal_text, start_fault_text, schedule_fault_text, finding_text};
 
-use crate::ending::{Finding, ScheduleFault};
+use crate::ending::Finding;
 use itoa::Buffer;
 use mv_calls::{Bytes, OutOfMemory};
 use mv_record::RecordKind;

@@ -12,5 +12,5 @@ mod running;
 mod showing;
 
 pub use carrying::{carry_out, program};
-pub use ending::{Ending, Finding, ScheduleFault};
+pub use ending::{Ending, Finding};
 pub use mv_rehearse::Outcome;

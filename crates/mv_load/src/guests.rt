@@ -1,5 +1,8 @@
 //! The demonstration guests, as assembler texts (docs/FORMATS.md, "Demonstration guests").
 
+ghost use Rattle.std.specs.Prelude.{◌≡◌};
+ghost use Rattle.mv_load.specs.Guests.{text_of};
+
 mod bang;
 mod new;
 mod old;
@@ -20,7 +23,9 @@ pub enum Demo {
 }
 
 /// The assembler text of a guest.
-pub fn guest_text(which: Demo) -> &'static [u8] {
+pub fn guest_text(which: Demo) -> &'static [u8]
+    ensures { result.now ≡ text_of which }
+{
     let text = match which {
         Demo::Old => old::TEXT,
         Demo::New => new::TEXT,
