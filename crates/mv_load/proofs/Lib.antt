@@ -1,2 +1,3 @@
 pub mod Draws
-pub mod Try
+pub mod Playing
+pub mod Sums
