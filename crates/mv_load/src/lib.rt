@@ -2,10 +2,12 @@
 #![tactic(auto)]
 
 mod figures;
+mod files;
 mod guests;
 mod player;
 mod script;
 
+pub use files::{guest_file, load_files};
 pub use figures::{Figures, figures_of};
 pub use guests::{Demo, guest_text};
 pub use player::{Plan, Player};
