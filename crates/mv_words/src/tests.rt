@@ -109,6 +109,13 @@ fn words_in_the_grammar(rt: HostRuntime) -> Result<(), Fail> {
             Ok(Command::Assemble { .. })
         )
     );
+    let words = texts(alloc, &["load", "00700"])?;
+    assert!(rt;
+        matches!(
+            read_words(alloc, words.as_slice()),
+            Ok(Command::Load { connections: 700 })
+        )
+    );
     let words = texts(alloc, &["check", "--help"])?;
     assert!(rt; matches!(read_words(alloc, words.as_slice()), Ok(Command::Help)));
     Ok(())
@@ -116,7 +123,7 @@ fn words_in_the_grammar(rt: HostRuntime) -> Result<(), Fail> {
 
 #[test]
 fn words_outside_the_grammar(rt: HostRuntime) -> Result<(), Fail> {
-    let rows: [&[&str]; 18] = [
+    let rows: [&[&str]; 21] = [
         &[],
         &["jump"],
         &["run"],
@@ -135,6 +142,9 @@ fn words_outside_the_grammar(rt: HostRuntime) -> Result<(), Fail> {
         &["audit", "log", "old", "new", "none"],
         &["show", "log", "--console=b:2"],
         &["assemble", "text"],
+        &["load"],
+        &["load", "0"],
+        &["load", "10001"],
     ];
     for words in rows {
         assert!(rt; are_refused(rt.alloc(), words)?);
