@@ -116,6 +116,7 @@ files_of (ask.Audit log old updates) = audit_files log old updates
 files_of (ask.Show log) = log ∷ []
 files_of (ask.Assemble text to) = text ∷ []
 files_of ask.Help = []
+files_of (ask.Load connections) = []
 files_of ask.Version = []
 
 -- the command ends by what its file with this number is found to be
@@ -132,6 +133,7 @@ FoundAt (ask.Audit log old updates) told (suc (suc n)) text finding = ⊥
 FoundAt (ask.Show log) told n text finding = IsNoLog text finding
 FoundAt (ask.Assemble from to) told n text finding = IsNoText text finding
 FoundAt ask.Help told n text finding = ⊥
+FoundAt (ask.Load connections) told n text finding = ⊥
 FoundAt ask.Version told n text finding = ⊥
 
 -- the command goes on past its file with this number
@@ -146,6 +148,7 @@ GoesOn (ask.Audit log old updates) told n text = AuditGoes told log n text
 GoesOn (ask.Show log) told n text = HasSomeLog text
 GoesOn (ask.Assemble from to) told n text = IsText text
 GoesOn ask.Help told n text = ⊥
+GoesOn (ask.Load connections) told n text = ⊥
 GoesOn ask.Version told n text = ⊥
 
 -- ## Where a command ends

@@ -2,6 +2,7 @@
 
 use mv_calls::Bytes;
 use mv_history::{Entries, How};
+use mv_load::Loaded;
 use mv_record::RecordFault;
 use mv_rules::RuleFault;
 use mv_schedule::ScheduleFault;
@@ -52,6 +53,8 @@ pub enum Ending {
     Assembled { bytes: u64 },
     /// A text was assembled, and the module couldn't be written to the file of this path.
     NotWritten { path: Bytes },
+    /// A load was rehearsed, over objects of its own.
+    Loaded(Loaded),
     /// The entries of a log, to be shown.
     Shown { entries: Entries },
 }

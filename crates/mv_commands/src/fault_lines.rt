@@ -106,7 +106,7 @@ fn start_fault_line(alloc: Global, path: &Bytes, fault: StartFault) -> Result<Ve
 }
 
 /// The line of a module of which no guest starts, or is born.
-fn refusal_line(alloc: Global, path: &Bytes, fault: BornFault) -> Result<Vec<u8>, OutOfMemory>
+pub fn refusal_line(alloc: Global, path: &Bytes, fault: BornFault) -> Result<Vec<u8>, OutOfMemory>
     ensures { IfOk result (λ line. line.items ≡ refusal_text path.now fault) }
 {
     match fault {

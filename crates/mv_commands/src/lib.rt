@@ -6,6 +6,7 @@ mod carrying;
 mod ending;
 mod fault_lines;
 mod judging;
+mod loads;
 mod keeping;
 mod loading;
 mod running;

@@ -6,3 +6,4 @@ pub mod Connections
 pub mod Played
 pub mod Operator
 pub mod Schedule
+pub mod Loads
