@@ -134,7 +134,7 @@ impl Kernel for Plain {
 /// A console that tells nothing. It hands on an update's order, then nothing, and has no memory for the first `refusals` answers.
 #[derive(Drop)]
 struct Shy {
-    looks: u64,
+    handed: bool,
     refusals: u64,
     place: usize,
 }
@@ -151,13 +151,14 @@ impl Console for Shy {
     ghost ended = { λ _. false };
 
     fn next(&mut self, alloc: Global) -> Line {
-        let look = self.looks;
-        self.looks = look.saturating_add(1);
-        if look > 0 {
+        if self.handed {
             return Line::Idle;
         }
         match Bytes::from_slice(alloc, b"update a none none") {
-            Ok(line) => Line::Line(line),
+            Ok(line) => {
+                self.handed = true;
+                Line::Line(line)
+            }
             Err(_) => Line::Memory,
         }
     }
@@ -272,7 +273,7 @@ fn letters(alloc: Global, log: &Log) -> Result<String, OutOfMemory> {
 fn a_line_waits_for_memory_and_a_copy_does_not(rt: HostRuntime) -> Result<(), Fail> {
     let alloc = rt.alloc();
     let console = Shy {
-        looks: 0,
+        handed: false,
         refusals: 1,
         place: 0,
     };
