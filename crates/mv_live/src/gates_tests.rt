@@ -1,19 +1,20 @@
-//! A demonstration guest on two threads, each of which is held until the other has come so far. Everything is in memory.
+//! The first demonstration guest, served over objects in memory: by two threads, each of which is held until the other has come so
+//! far, and where one of the objects fails.
 
 use mv_calls::{Bytes, Call, Item, OutOfMemory, Reply, Room, Texts};
-use mv_commands::{Outcome, program};
+use mv_commands::program;
 use mv_history::{Entry, Mark};
 use mv_kernmem::{Conn, Conns, MemKernel, Numbers, Script};
 use mv_load::{Demo, guest_text};
-use mv_outside::{Failed, FileAt, Gate, Kernel, MemConsole, MemFiles, VecSink, paths_differ};
+use mv_outside::{
+    Failed, FileAt, FreeGate, Gate, Kernel, MemConsole, MemFiles, VecSink, paths_differ,
+};
 use mv_text::assemble;
 use mv_writer::write_module;
-use std::alloc::Global;
+use std::alloc::{AllocError, Global};
 use std::process::Abort;
-use std::sync::Wait;
 use std::sync::atomic::{AtomicU64, Ordering};
 use std::test::Fail;
-use std::thread::Threads;
 use std::time::{Clock, Duration};
 
 /// How often it is looked whether a count is high enough.
@@ -110,8 +111,17 @@ impl<'a, R: Clock, K: Kernel> Kernel for Held<'a, R, K> {
     }
 }
 
-/// One connection, which sends `a` and ends.
-fn kernel(alloc: Global) -> Result<MemKernel, Fail> {
+/// The number, where there is one.
+fn list(alloc: Global, number: Option<u64>) -> Result<Vec<u64>, AllocError> {
+    let mut numbers = Vec::new(alloc);
+    if let Some(number) = number {
+        numbers.push(number)?;
+    }
+    Ok(numbers)
+}
+
+/// One connection, which sends `a` and ends. The call of this number fails.
+fn kernel(alloc: Global, fail: Option<u64>) -> Result<MemKernel, Fail> {
     let mut pieces = Vec::new(alloc);
     pieces.push(Bytes::from_slice(alloc, b"a")?)?;
     let mut conns = Vec::new(alloc);
@@ -123,13 +133,18 @@ fn kernel(alloc: Global) -> Result<MemKernel, Fail> {
         conns: Conns::from_vec(conns),
         clock: Numbers::from_vec(Vec::new(alloc)),
         random: Bytes::from_vec(Vec::new(alloc)),
-        fail: Numbers::from_vec(Vec::new(alloc)),
+        fail: Numbers::from_vec(list(alloc, fail)?),
     };
     Ok(MemKernel::new(alloc, script)?)
 }
 
-/// The operator says these lines at the looks of these numbers, from 0.
-fn console(alloc: Global, orders: &[(usize, &str)]) -> Result<MemConsole, Fail> {
+/// The operator says these lines at the looks of these numbers, from 0. The look and the reply of these numbers fail.
+fn console(
+    alloc: Global,
+    orders: &[(usize, &str)],
+    look: Option<u64>,
+    reply: Option<u64>,
+) -> Result<MemConsole, Fail> {
     let mut lines = Vec::new(alloc);
     for (look, line) in orders {
         for _ in lines.len()..*look {
@@ -137,11 +152,11 @@ fn console(alloc: Global, orders: &[(usize, &str)]) -> Result<MemConsole, Fail> 
         }
         lines.push(Some(Bytes::from_slice(alloc, line.as_bytes())?))?;
     }
-    Ok(MemConsole::new(alloc, lines, Vec::new(alloc), Vec::new(alloc)))
+    Ok(MemConsole::new(alloc, lines, list(alloc, look)?, list(alloc, reply)?))
 }
 
-/// The one file, `old`: the first demonstration guest.
-fn files(rt: &impl Abort, alloc: Global) -> Result<MemFiles, Fail> {
+/// The one file, `old`: the guest. The read of this number fails.
+fn files(rt: &impl Abort, alloc: Global, read: Option<u64>) -> Result<MemFiles, Fail> {
     let module = assemble(alloc, guest_text(Demo::Old))?;
     let mut all = Vec::new(alloc);
     all.push(FileAt {
@@ -149,34 +164,16 @@ fn files(rt: &impl Abort, alloc: Global) -> Result<MemFiles, Fail> {
         bytes: Bytes::from_vec(write_module(alloc, &module)?),
     })?;
     assert!(rt; paths_differ(all.as_slice()));
-    Ok(MemFiles::new(all, Vec::new(alloc), Vec::new(alloc)))
+    Ok(MemFiles::new(all, list(alloc, read)?, Vec::new(alloc)))
 }
 
-/// What `serve old` comes to.
-fn served<R: Threads + Wait + Sync + Abort, K: Kernel + Send, G: Gate + Sync>(
-    rt: &R,
-    alloc: Global,
-    kernel: K,
-    orders: &[(usize, &str)],
-    gate: &G,
-) -> Result<Outcome<K, MemConsole, MemFiles>, Fail> {
-    let mut words = Vec::new(alloc);
+/// The words `serve old`.
+fn words(alloc: Global) -> Result<Vec<String>, Fail> {
+    let mut all = Vec::new(alloc);
     for word in ["serve", "old"] {
-        words.push(String::from_str(alloc, word)?)?;
+        all.push(String::from_str(alloc, word)?)?;
     }
-    let mut sink = VecSink::new(alloc, Vec::new(alloc));
-    let came = program(
-        rt,
-        alloc,
-        words.as_slice(),
-        kernel,
-        console(alloc, orders)?,
-        files(rt, alloc)?,
-        gate,
-        &mut sink,
-    );
-    assert!(rt; sink.bytes() == b"ended 0\n".as_slice());
-    Ok(came)
+    Ok(all)
 }
 
 /// Whether this is the call of this number, from 0, that the guest makes over the one connection, with its reply.
@@ -196,14 +193,14 @@ fn is_call(number: usize, item: &Item) -> bool {
     }
 }
 
-/// Whether these are its six calls.
-fn are_its_calls(done: &[Item]) -> bool {
+/// Whether these are its first calls, so many; six are all.
+fn are_calls(done: &[Item], count: usize) -> bool {
     for (number, item) in done.iter().enumerate() {
         if !is_call(number, item) {
             return false;
         }
     }
-    done.len() == 6
+    done.len() == count
 }
 
 /// How many followers were made, and how many of them were promoted.
@@ -234,10 +231,21 @@ fn each_activity_of_the_program_waits_for_the_other(rt: HostRuntime) -> Result<(
         step_of_call: u64::MAX,
     };
     let orders = [(0, "update old none none"), (2, "promote"), (4, "finish")];
-    let came = served(&rt, alloc, kernel(alloc)?, &orders, &gate)?;
+    let said = words(alloc)?;
+    let mut sink = VecSink::new(alloc, Vec::new(alloc));
+    let came = program(
+        &rt,
+        alloc,
+        said.as_slice(),
+        kernel(alloc, None)?,
+        console(alloc, &orders, None, None)?,
+        files(&rt, alloc, None)?,
+        &gate,
+        &mut sink,
+    );
     assert_eq!(rt; came.status, 0);
     assert_eq!(rt; counters.limits.load(Ordering::SeqCst), 0);
-    assert!(rt; are_its_calls(came.kernel.done()));
+    assert!(rt; are_calls(came.kernel.done(), 6));
     assert!(rt; followers(came.log.entries.slice()) == (1, 1));
     Ok(())
 }
@@ -248,12 +256,6 @@ fn the_follower_steps_while_the_program_does_a_call(rt: HostRuntime) -> Result<(
     let alloc = rt.alloc();
     let counters = Counters::new();
     // Turn 2 waits for step 0, which waits for a call; that waits for step 2.
-    let held = Held {
-        rt: &rt,
-        counters: &counters,
-        steps: 3,
-        inner: kernel(alloc)?,
-    };
     let gate = Scene {
         rt: &rt,
         counters: &counters,
@@ -261,10 +263,109 @@ fn the_follower_steps_while_the_program_does_a_call(rt: HostRuntime) -> Result<(
         step: (u64::MAX, 0),
         step_of_call: 0,
     };
-    let came = served(&rt, alloc, held, &[(0, "update old none none")], &gate)?;
+    let inner = kernel(alloc, None)?;
+    let held = Held {
+        rt: &rt,
+        counters: &counters,
+        steps: 3,
+        inner,
+    };
+    let said = words(alloc)?;
+    let mut sink = VecSink::new(alloc, Vec::new(alloc));
+    let came = program(
+        &rt,
+        alloc,
+        said.as_slice(),
+        held,
+        console(alloc, &[(0, "update old none none")], None, None)?,
+        files(&rt, alloc, None)?,
+        &gate,
+        &mut sink,
+    );
     assert_eq!(rt; came.status, 0);
     assert_eq!(rt; counters.limits.load(Ordering::SeqCst), 0);
-    assert!(rt; are_its_calls(came.kernel.inner.done()));
+    assert!(rt; are_calls(came.kernel.inner.done(), 6));
     assert!(rt; followers(came.log.entries.slice()) == (1, 0));
+    Ok(())
+}
+
+/// What the operator is told where nothing fails.
+const TOLD: &[u8] =
+    b"{\"ok\":\"update\",\"update\":1}\n{\"ok\":\"promote\"}\n{\"ok\":\"finish\"}\n";
+
+/// What he is told of the update.
+const UPDATED: &[u8] = b"{\"ok\":\"update\",\"update\":1}\n";
+
+/// What he is told where a file of the update can't be read.
+const UNREAD: &[u8] = b"{\"no\":\"failed\",\"path\":\"old\"}\n";
+
+/// The numbers of a kernel's call, a look, a reply and a read that fail.
+#[derive(Clone, Copy)]
+struct Failing {
+    call: Option<u64>,
+    look: Option<u64>,
+    reply: Option<u64>,
+    read: Option<u64>,
+}
+
+const NOTHING: Failing = Failing {
+    call: None,
+    look: None,
+    reply: None,
+    read: None,
+};
+
+#[test]
+fn failures_outside_show_where_the_program_serves(rt: HostRuntime) -> Result<(), Fail> {
+    let alloc = rt.alloc();
+    let call = Failing {
+        call: Some(2),
+        ..NOTHING
+    };
+    let look = Failing {
+        look: Some(2),
+        ..NOTHING
+    };
+    let reply = Failing {
+        reply: Some(0),
+        ..NOTHING
+    };
+    let read = Failing {
+        read: Some(1),
+        ..NOTHING
+    };
+    let all: &[(usize, &str)] = &[(0, "update old none none"), (2, "promote"), (4, "finish")];
+    let one: &[(usize, &str)] = &[(0, "update old none none")];
+    let rows: [(Failing, &[(usize, &str)], u8, usize, (u64, u64), &[u8]); 4] = [
+        // The write isn't done, and the run ends.
+        (call, all, 6, 2, (1, 1), TOLD),
+        // The look that would have had `promote`: no order comes any more.
+        (look, all, 0, 6, (1, 0), UPDATED),
+        // The first reply, of which a part is told: no order comes any more.
+        (reply, all, 0, 6, (1, 0), UPDATED),
+        // The read of the update's module.
+        (read, one, 0, 6, (0, 0), UNREAD),
+    ];
+    for (fails, orders, status, calls, made, told) in rows {
+        let said = words(alloc)?;
+        let mut sink = VecSink::new(alloc, Vec::new(alloc));
+        let came = program(
+            &rt,
+            alloc,
+            said.as_slice(),
+            kernel(alloc, fails.call)?,
+            console(alloc, orders, fails.look, fails.reply)?,
+            files(&rt, alloc, fails.read)?,
+            &FreeGate::new(),
+            &mut sink,
+        );
+        assert_eq!(rt; came.status, status);
+        assert!(rt; are_calls(came.kernel.done(), calls));
+        assert!(rt; followers(came.log.entries.slice()) == made);
+        let heard = came.console.said();
+        assert!(rt;
+            told.starts_with(heard) && (heard.len() == told.len() || fails.reply.is_some())
+        );
+    }
     Ok(())
 }
