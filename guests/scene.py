@@ -370,4 +370,5 @@ def main():
             scene.server.wait()
 
 
-sys.exit(main())
+if __name__ == "__main__":
+    sys.exit(main())

@@ -3,6 +3,10 @@
 
 mod disk_files;
 #[cfg(test)]
+mod gates_tests;
+#[cfg(test)]
+mod objects_tests;
+#[cfg(test)]
 mod server_tests;
 #[cfg(test)]
 mod tests;
