@@ -3,6 +3,10 @@
 
 mod disk_files;
 #[cfg(test)]
+mod log_texts;
+#[cfg(test)]
+mod rows_tests;
+#[cfg(test)]
 mod server_tests;
 #[cfg(test)]
 mod tests;
