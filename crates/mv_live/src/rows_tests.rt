@@ -37,15 +37,39 @@ struct Row<'a> {
     updates: &'a [&'a str],
 }
 
-/// A row with these orders, with the piece `a` and as many beats as are wanted.
+/// The old version with these orders and the piece `a`, over as many beats as are wanted.
 fn ordered<'a>(orders: &'a [(usize, &'a str)], updates: &'a [&'a str]) -> Row<'a> {
+    planned(30, b"", &[], orders, updates)
+}
+
+/// The same over another schedule, with these options.
+fn planned<'a>(
+    blocks: usize,
+    ending: &'a [u8],
+    options: &'a [&'a str],
+    orders: &'a [(usize, &'a str)],
+    updates: &'a [&'a str],
+) -> Row<'a> {
     Row {
         old: Demo::Old,
+        blocks,
+        ending,
+        options,
+        orders,
+        pieces: &[b"a"],
+        updates,
+    }
+}
+
+/// A row in which the pieces `a` and `!` come.
+fn trapping<'a>(old: Demo, orders: &'a [(usize, &'a str)], updates: &'a [&'a str]) -> Row<'a> {
+    Row {
+        old,
         blocks: 30,
         ending: b"",
         options: &[],
         orders,
-        pieces: &[b"a"],
+        pieces: &[b"a", b"!"],
         updates,
     }
 }
@@ -273,24 +297,22 @@ fn a_trap_of_the_leader_is_survived_by_the_other(rt: HostRuntime) -> Result<(), 
     let led = "order update bang fwd rev = Update 1|fork 1|\
 point|accept 3 0 = fd 4|read 4 64 = bytes a|write 4 OK\n = count 3|\
 order promote = Promote 0|hand Promote|promote|point|read 4 64 = bytes !|hand Trap(Unreachable)|back|";
-    let mut row = ordered(
-        &[(0, "update bang fwd rev"), (6, "promote")],
-        &["bang", "fwd", "rev"],
-    );
-    row.pieces = &[b"a", b"!"];
+    let orders = [(0, "update bang fwd rev"), (6, "promote")];
+    let updates = ["bang", "fwd", "rev"];
+    let row = trapping(Demo::Old, &orders, &updates);
     let begins = format!(in alloc; "{led}write 4 OK\n = count 3|")?;
     let left = expect(&rt, alloc, row, begins.as_str(), QUIET, ENDED)?;
     let eight = "accept 3 0 = fd 4|read 4 64 = bytes a|write 4 OK\n = count 3|\
 read 4 64 = bytes !|write 4 OK\n = count 3|read 4 64 = bytes |close 4 = done|accept 3 0 = errno 6|";
     assert_eq!(rt; left.done.as_str(), eight);
     // The old one traps there too.
-    row.old = Demo::OldBang;
+    let row = trapping(Demo::OldBang, &orders, &updates);
     let trapped: (u8, &[u8]) = (5, b"trapped Unreachable\n");
     expect(&rt, alloc, row, led, "end Trapped(Unreachable)|", trapped)?;
     // The old version leads, and traps.
-    let mut row = ordered(&[(0, "update new fwd rev")], &["new", "fwd", "rev"]);
-    row.old = Demo::OldBang;
-    row.pieces = &[b"a", b"!"];
+    let orders = [(0, "update new fwd rev")];
+    let updates = ["new", "fwd", "rev"];
+    let row = trapping(Demo::OldBang, &orders, &updates);
     let begins = "order update new fwd rev = Update 1|fork 1|\
 point|accept 3 0 = fd 4|read 4 64 = bytes a|write 4 OK\n = count 3|\
 point|read 4 64 = bytes !|hand Trap(Unreachable)|over|write 4 +OK\n = count 4|";
@@ -309,10 +331,9 @@ point|accept 3 0 = fd 4|read 4 64 = bytes a|write 4 OK\n = count 3|point|";
         (b"LLLLLLLLCL", "read 4 64 = bytes |end Cut|"),
     ];
     for (ending, ends) in rows {
-        let mut row = ordered(&[(0, "update old none none")], &["old", "none", "none"]);
-        row.blocks = 0;
-        row.ending = ending;
-        row.options = &["--ring", "4"];
+        let orders = [(0, "update old none none")];
+        let updates = ["old", "none", "none"];
+        let row = planned(0, ending, &["--ring", "4"], &orders, &updates);
         expect(&rt, rt.alloc(), row, full, ends, cut)?;
     }
     // A mismatch is found before the order, and judged behind it, or behind the next fork.
@@ -336,9 +357,8 @@ order discard = Discard 0|discard order 6|";
         ),
     ];
     for (ending, orders, ends) in rows {
-        let mut row = ordered(orders, &["new", "none", "none", "new", "none", "none"]);
-        row.blocks = 5;
-        row.ending = ending;
+        let updates = ["new", "none", "none", "new", "none", "none"];
+        let row = planned(5, ending, &[], orders, &updates);
         expect(&rt, rt.alloc(), row, found, ends, cut)?;
     }
     Ok(())
