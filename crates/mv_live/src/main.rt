@@ -5,7 +5,11 @@ mod disk_files;
 #[cfg(test)]
 mod gates_tests;
 #[cfg(test)]
+mod log_texts;
+#[cfg(test)]
 mod objects_tests;
+#[cfg(test)]
+mod rows_tests;
 #[cfg(test)]
 mod server_tests;
 #[cfg(test)]

@@ -52,8 +52,8 @@ struct Asked<'a> {
     words: &'a [&'a str],
     /// What the operator says at the looks of these numbers, from 0.
     orders: &'a [(usize, &'a str)],
-    /// What comes over the one connection, in one piece; where it is empty, none waits.
-    piece: &'a [u8],
+    /// What comes over the one connection, before its end; where there is no piece, none waits.
+    pieces: &'a [&'a [u8]],
     /// The numbers of the calls that are to fail.
     perform: Option<u64>,
     read: Option<u64>,
@@ -65,7 +65,7 @@ fn words<'a>(words: &'a [&'a str]) -> Asked<'a> {
     Asked {
         words,
         orders: &[],
-        piece: &[],
+        pieces: &[],
         perform: None,
         read: None,
         print: None,
@@ -77,7 +77,7 @@ fn ordered<'a>(words: &'a [&'a str], orders: &'a [(usize, &'a str)]) -> Asked<'a
     Asked {
         words,
         orders,
-        piece: &[],
+        pieces: &[],
         perform: None,
         read: None,
         print: None,
@@ -104,7 +104,8 @@ fn list(alloc: Global, number: Option<u64>) -> Result<Vec<u64>, AllocError> {
     Ok(numbers)
 }
 
-fn texts(alloc: Global, words: &[&str]) -> Result<Vec<String>, AllocError> {
+/// These words, owned.
+pub(crate) fn texts(alloc: Global, words: &[&str]) -> Result<Vec<String>, AllocError> {
     let mut all = Vec::new(alloc);
     for word in words {
         all.push(String::from_str(alloc, word)?)?;
@@ -112,7 +113,8 @@ fn texts(alloc: Global, words: &[&str]) -> Result<Vec<String>, AllocError> {
     Ok(all)
 }
 
-fn files(
+/// These files; the read of this number fails.
+pub(crate) fn files(
     rt: &impl Abort,
     alloc: Global,
     named: &[(&str, &[u8])],
@@ -130,7 +132,7 @@ fn files(
 }
 
 /// The lines of these orders, each at its look, with idle turns before it.
-fn console(alloc: Global, orders: &[(usize, &str)]) -> Result<MemConsole, Fail> {
+pub(crate) fn console(alloc: Global, orders: &[(usize, &str)]) -> Result<MemConsole, Fail> {
     let mut lines = Vec::new(alloc);
     for (look, line) in orders {
         for _ in lines.len()..*look {
@@ -141,13 +143,21 @@ fn console(alloc: Global, orders: &[(usize, &str)]) -> Result<MemConsole, Fail> 
     Ok(MemConsole::new(alloc, lines, Vec::new(alloc), Vec::new(alloc)))
 }
 
-fn kernel(alloc: Global, piece: &[u8], perform: Option<u64>) -> Result<MemKernel, Fail> {
+/// A kernel with one connection, over which these pieces come, and then its end; none where there is no piece. The call of this
+/// number fails.
+pub(crate) fn kernel(
+    alloc: Global,
+    pieces: &[&[u8]],
+    perform: Option<u64>,
+) -> Result<MemKernel, Fail> {
     let mut conns = Vec::new(alloc);
-    if !piece.is_empty() {
-        let mut pieces = Vec::new(alloc);
-        pieces.push(Bytes::from_slice(alloc, piece)?)?;
+    if !pieces.is_empty() {
+        let mut texts = Vec::new(alloc);
+        for piece in pieces {
+            texts.push(Bytes::from_slice(alloc, piece)?)?;
+        }
         conns.push(Conn {
-            pieces: Texts::from_vec(pieces),
+            pieces: Texts::from_vec(texts),
             ends: true,
         })?;
     }
@@ -209,7 +219,7 @@ fn row_of(
     named: &[(&str, &[u8])],
 ) -> Result<Shown, Fail> {
     let said = texts(alloc, asked.words)?;
-    let kernel = kernel(alloc, asked.piece, asked.perform)?;
+    let kernel = kernel(alloc, asked.pieces, asked.perform)?;
     let console = console(alloc, asked.orders)?;
     let files = files(rt, alloc, named, asked.read)?;
     let mut sink = VecSink::new(alloc, list(alloc, asked.print)?);
@@ -566,7 +576,7 @@ const READER: &[u8; 225] = b"\0asm\x01\0\0\0\
 #[test]
 fn a_read_without_a_place_for_its_count_takes_nothing(rt: HostRuntime) -> Result<(), Fail> {
     let mut asked = words(&["run", "reader"]);
-    asked.piece = b"0123456789";
+    asked.pieces = &[b"0123456789"];
     let row = row_of(&rt, rt.alloc(), asked, &[("reader", READER)])?;
     // Errno 21, and ten bytes; the calls are the accept and one read.
     assert!(rt; row.line.as_slice() == b"ended 31\n".as_slice());
@@ -815,7 +825,7 @@ fn of_program<R: Threads + Wait + Sync>(
     files: MemFiles,
 ) -> Result<Shown, Fail> {
     let said = texts(alloc, asked.words)?;
-    let kernel = kernel(alloc, asked.piece, asked.perform)?;
+    let kernel = kernel(alloc, asked.pieces, asked.perform)?;
     let console = console(alloc, asked.orders)?;
     let gate = FreeGate::new();
     let mut sink = VecSink::new(alloc, Vec::new(alloc));
