@@ -3,6 +3,8 @@
 
 mod disk_files;
 #[cfg(test)]
+mod poll_tests;
+#[cfg(test)]
 mod server_tests;
 #[cfg(test)]
 mod tests;

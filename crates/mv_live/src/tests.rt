@@ -104,7 +104,7 @@ fn list(alloc: Global, number: Option<u64>) -> Result<Vec<u64>, AllocError> {
     Ok(numbers)
 }
 
-fn texts(alloc: Global, words: &[&str]) -> Result<Vec<String>, AllocError> {
+pub fn texts(alloc: Global, words: &[&str]) -> Result<Vec<String>, AllocError> {
     let mut all = Vec::new(alloc);
     for word in words {
         all.push(String::from_str(alloc, word)?)?;
@@ -112,7 +112,7 @@ fn texts(alloc: Global, words: &[&str]) -> Result<Vec<String>, AllocError> {
     Ok(all)
 }
 
-fn files(
+pub fn files(
     rt: &impl Abort,
     alloc: Global,
     named: &[(&str, &[u8])],
@@ -130,7 +130,7 @@ fn files(
 }
 
 /// The lines of these orders, each at its look, with idle turns before it.
-fn console(alloc: Global, orders: &[(usize, &str)]) -> Result<MemConsole, Fail> {
+pub fn console(alloc: Global, orders: &[(usize, &str)]) -> Result<MemConsole, Fail> {
     let mut lines = Vec::new(alloc);
     for (look, line) in orders {
         for _ in lines.len()..*look {
@@ -141,7 +141,7 @@ fn console(alloc: Global, orders: &[(usize, &str)]) -> Result<MemConsole, Fail> 
     Ok(MemConsole::new(alloc, lines, Vec::new(alloc), Vec::new(alloc)))
 }
 
-fn kernel(alloc: Global, piece: &[u8], perform: Option<u64>) -> Result<MemKernel, Fail> {
+pub fn kernel(alloc: Global, piece: &[u8], perform: Option<u64>) -> Result<MemKernel, Fail> {
     let mut conns = Vec::new(alloc);
     if !piece.is_empty() {
         let mut pieces = Vec::new(alloc);
