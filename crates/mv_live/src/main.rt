@@ -9,6 +9,8 @@ mod log_texts;
 #[cfg(test)]
 mod objects_tests;
 #[cfg(test)]
+mod poll_tests;
+#[cfg(test)]
 mod rows_tests;
 #[cfg(test)]
 mod server_tests;
