@@ -7,6 +7,8 @@ mod guests;
 mod player;
 mod rehearsal;
 mod script;
+#[cfg(test)]
+mod tests;
 
 pub use figures::{Figures, figures_of};
 pub use files::{guest_file, load_files};
