@@ -6,6 +6,7 @@ use crate::ending::Finding;
 use itoa::Buffer;
 use mv_calls::{Bytes, OutOfMemory};
 use mv_record::RecordKind;
+use mv_schedule::ScheduleFault;
 use mv_show::{read_kind_name, rule_kind_name, trap_name, valid_kind_name};
 use mv_syntax::{BornFault, StartFault};
 use mv_text::TextKind;

@@ -10,14 +10,14 @@ use Rattle.mv_load.specs.Schedule.{load_beats, times}
 abbrev word : List ℕ
 word = codes "LCFFFJ"
 
-append_none : (a b : List ℕ) (p : ℕ) → first_other p a ≡ None → ((q : ℕ) → first_other q b ≡ None) → first_other p (a ++ b) ≡ None
+one_step : (x : ℕ) (xs b : List ℕ) (p : ℕ) (passes : Bool) → (is_some (beat_of x) || is_blank x) ≡ passes → (first_other (p + 1) xs ≡ None → first_other (p + 1) (xs ++ b) ≡ None) → first_other p (x ∷ xs) ≡ None → first_other p ((x ∷ xs) ++ b) ≡ None
 unfolding first_other
+one_step x xs b p true e more h = rw e (more (rw e at h))
+one_step x xs b p false e more h = let bad : Some p ≡ None = rw e at h in absurd cc
+
+append_none : (a b : List ℕ) (p : ℕ) → first_other p a ≡ None → ((q : ℕ) → first_other q b ≡ None) → first_other p (a ++ b) ≡ None
 append_none [] b p ha hb = hb p
-append_none (x ∷ xs) b p ha hb = step (is_some (beat_of x) || is_blank x) refl ha
-  where
-    step : (c : Bool) → (is_some (beat_of x) || is_blank x) ≡ c → first_other p (x ∷ xs) ≡ None → first_other p ((x ∷ xs) ++ b) ≡ None
-    step true e h = rw e (append_none xs b (p + 1) (rw e at h) hb)
-    step false e h = let bad : Some p ≡ None = rw e at h in absurd cc
+append_none (x ∷ xs) b p ha hb = one_step x xs b p (is_some (beat_of x) || is_blank x) refl (λ h. append_none xs b (p + 1) h hb) ha
 
 word_none : (q : ℕ) → first_other q word ≡ None
 unfolding first_other

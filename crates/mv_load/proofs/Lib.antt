@@ -3,3 +3,4 @@ pub mod Playing
 pub mod Sums
 pub mod Letters
 pub mod Audits
+pub mod Connecting
