@@ -30,12 +30,10 @@ use Rattle.mv_inspect.specs.declared.listing.Listed.{Listed}
 use Rattle.mv_inspect.specs.declared.listing.Listed.TheVariants as listed
 use Rattle.mv_commands.specs.Loading.{audit_ending_by, show_ending_by}
 use Rattle.mv_words.proofs.OneReading.{one_reading}
-use Rattle.mv_load.specs.declared.rehearsal.Loaded.{Loaded}
-use Rattle.mv_load.specs.declared.rehearsal.Loaded.TheVariants as loaded
-use Rattle.mv_commands.specs.Causes.{AssemblyOf, DidTheLog, LoadsAs, WroteAlone, Known, IsOnOneThread, IsKept, IsLegal, Keeps, KeepsFiles, RanFor, RunOf, Seen, NoGuest, CauseOf, HasCause, IsBegun, IsFeasible, IsRun, output_of}
+use Rattle.mv_commands.specs.Causes.{AssemblyOf, WroteAlone, Known, IsOnOneThread, IsKept, IsLegal, Keeps, KeepsFiles, RanFor, RunOf, Seen, NoGuest, CauseOf, HasCause, IsBegun, IsFeasible, IsRun, output_of}
 use Rattle.mv_commands.specs.Keeping.{SaysHow}
-use Rattle.mv_schedule.specs.Schedules.{schedule_of}
-use Rattle.mv_schedule.specs.declared.schedule.ScheduleFault.{ScheduleFault}
+use Rattle.mv_commands.specs.Schedules.{schedule_of}
+use Rattle.mv_commands.specs.declared.ending.ScheduleFault.{ScheduleFault}
 use Rattle.mv_commands.specs.declared.ending.Ending.{Ending}
 use Rattle.mv_commands.specs.declared.ending.Ending.TheVariants as ending_is
 use Rattle.mv_commands.specs.declared.ending.Finding.{Finding}
@@ -103,7 +101,6 @@ ran_cause command before mid after log other h (ending_is.Audited illegal) same 
 ran_cause command before mid after log other h (ending_is.Shown entries) same run says keeps = absurd says
 ran_cause command before mid after log other h (ending_is.Assembled bytes) same run says keeps = absurd says
 ran_cause command before mid after log other h (ending_is.NotWritten path) same run says keeps = absurd says
-ran_cause command before mid after log other h (ending_is.Loaded end) same run says keeps = absurd says
 
 -- a command that judges one file
 pub judged_cause : (Says : Meaning) (command : Command) (path : List ℕ) (before after : Seen) (log : Log) (found : Judged) → slice_get (files_of command) 0 ≡ Some path → ((text : List ℕ) (finding : Finding) → Says text finding → FoundAt command before.files 0 text finding)
@@ -189,7 +186,6 @@ cause_by Is words command before after log (ending_is.Audited illegal) is says c
 cause_by Is words command before after log (ending_is.Shown entries) is says cause = (command, is, says, cause)
 cause_by Is words command before after log (ending_is.Assembled bytes) is says cause = (command, is, says, cause)
 cause_by Is words command before after log (ending_is.NotWritten path) is says cause = (command, is, says, cause)
-cause_by Is words command before after log (ending_is.Loaded end) is says cause = (command, is, says, cause)
 
 -- words that ask for a service ask for nothing on one thread
 pub no_service : (words : List (List ℕ)) (service : Command) → (IsOnOneThread service → ⊥) → Says words service → (command : Command) → IsOnOneThread command → Says words command → ⊥
@@ -210,7 +206,6 @@ assembly_is (ask.Rules forward) P holds = absurd holds
 assembly_is (ask.Audit from old updates) P holds = absurd holds
 assembly_is (ask.Show from) P holds = absurd holds
 assembly_is ask.Help P holds = absurd holds
-assembly_is (ask.Load connections) P holds = absurd holds
 assembly_is ask.Version P holds = absurd holds
 
 run_legal : (old : List ℕ) (args : List (List ℕ)) (before after : Seen) (began : Began) (log : Log) (h : How) → IsRun old args before after began log h → IsLegal log
@@ -230,20 +225,10 @@ some_run (ask.Audit record_ old updates) before after log h ran = absurd ran
 some_run (ask.Show record_) before after log h ran = absurd ran
 some_run (ask.Assemble from to) before after log h ran = absurd ran
 some_run ask.Help before after log h ran = absurd ran
-some_run (ask.Load connections) before after log h ran = absurd ran
 some_run ask.Version before after log h ran = absurd ran
 
 ran_legal : (command : Command) (before after : Seen) (log : Log) (h : How) → RunOf command before after log h → IsLegal log
 ran_legal command before after log h ran = let r = some_run command before after log h ran in run_legal r.0 r.1 before after r.2 log h r.3
-
-load_legal : (n : ℕ) (before after : Seen) (log : Log) (end : Loaded) → LoadsAs n before after log end → IsLegal log
-load_legal n before after log (loaded.Ended h figures) as =
-    inr (as.0.legal.first, ap₂ started as.0.legal.same_module as.0.legal.same_args ∙ as.0.legal.started, as.0.legal.legal)
-load_legal n before after log (loaded.Refused fault) as = inl as.1.entries
-
-load_files_same : (n : ℕ) (before after : Seen) (log : Log) (end : Loaded) → LoadsAs n before after log end → after.files ≡ before.files
-load_files_same n before after log (loaded.Ended h figures) as = ap (λ (s : Seen). s.files) as.3
-load_files_same n before after log (loaded.Refused fault) as = as.1.files
 
 -- whatever the words come to, the log is legal
 pub legal_by : (Is : Known) (words : List (List ℕ)) (before after : Seen) (log : Log) (ending : Ending) → HasCause Is words before after log ending → IsLegal log
@@ -259,7 +244,6 @@ legal_by Is words before after log (ending_is.Audited illegal) cause = inl cause
 legal_by Is words before after log (ending_is.Shown entries) cause = inl cause.3.1.entries
 legal_by Is words before after log (ending_is.Assembled bytes) cause = let a = assembly_is cause.0 _ cause.3 in inl a.3.1.entries
 legal_by Is words before after log (ending_is.NotWritten path) cause = let a = assembly_is cause.0 _ cause.3 in inl a.3.3.entries
-legal_by Is words before after log (ending_is.Loaded end) cause = load_legal cause.3.0 before after log end cause.3.2
 
 -- ## The calls that were done
 
@@ -292,33 +276,26 @@ keeps_done wanted mid log after (ending_is.Audited illegal) keeps = absurd keeps
 keeps_done wanted mid log after (ending_is.Shown entries) keeps = absurd keeps
 keeps_done wanted mid log after (ending_is.Assembled bytes) keeps = absurd keeps
 keeps_done wanted mid log after (ending_is.NotWritten path) keeps = absurd keeps
-keeps_done wanted mid log after (ending_is.Loaded end) keeps = absurd keeps
 
 ran_did : (command : Command) (before after : Seen) (log : Log) (h : How) (ending : Ending) → RanFor command before after log h ending → Did before after log
 ran_did command before after log h ending ran =
     let r = some_run command before ran.0 log h ran.1 in
     keeps_done (output_of command) ran.0 log after ending ran.2 ∙ run_did r.0 r.1 before ran.0 r.2 log h r.3
 
--- a load leaves the outside as it was, and its log is that of its own kernel
-load_did : (words : List (List ℕ)) (command : Command) (n : ℕ) (before after : Seen) (log : Log) (end : Loaded) → Says words command → command ≡ ask.Load n → LoadsAs n before after log end → DidTheLog words before.done after.done log
-load_did words command n before after log (loaded.Ended h figures) says is as = inr ((n, subst (λ (c : Command). Says words c) is says), ap (λ (s : Seen). s.done) as.3)
-load_did words command n before after log (loaded.Refused fault) says is as = inl (none_did before after log as.1)
-
 -- whatever the words come to, the calls done are the log's
-pub did_by : (Is : Known) (words : List (List ℕ)) (before after : Seen) (log : Log) (ending : Ending) → HasCause Is words before after log ending → DidTheLog words before.done after.done log
-did_by Is words before after log ending_is.BadWords cause = inl (none_did before after log cause.1)
-did_by Is words before after log ending_is.NoMemory cause = inl (none_did before after log cause)
-did_by Is words before after log ending_is.Told cause = inl (none_did before after log cause.3.1)
-did_by Is words before after log (ending_is.NoFile path) cause = inl (none_did before after log cause.3.1)
-did_by Is words before after log (ending_is.Found path finding) cause = inl (none_did before after log cause.3.1)
-did_by Is words before after log (ending_is.Ran h) cause = inl (ran_did cause.0 before after log h (ending_is.Ran h) cause.3)
-did_by Is words before after log (ending_is.LogFailed path h) cause = inl (ran_did cause.0 before after log h (ending_is.LogFailed path h) cause.3)
-did_by Is words before after log (ending_is.LogNotMade h) cause = inl (ran_did cause.0 before after log h (ending_is.LogNotMade h) cause.3)
-did_by Is words before after log (ending_is.Audited illegal) cause = inl (none_did before after log cause.3.1)
-did_by Is words before after log (ending_is.Shown entries) cause = inl (none_did before after log cause.3.1)
-did_by Is words before after log (ending_is.Assembled bytes) cause = let a = assembly_is cause.0 _ cause.3 in inl (wrote_did a.1 before after log a.3.1)
-did_by Is words before after log (ending_is.NotWritten path) cause = let a = assembly_is cause.0 _ cause.3 in inl (wrote_did a.1 before after log a.3.3)
-did_by Is words before after log (ending_is.Loaded end) cause = load_did words cause.0 cause.3.0 before after log end cause.2 cause.3.1 cause.3.2
+pub did_by : (Is : Known) (words : List (List ℕ)) (before after : Seen) (log : Log) (ending : Ending) → HasCause Is words before after log ending → Did before after log
+did_by Is words before after log ending_is.BadWords cause = none_did before after log cause.1
+did_by Is words before after log ending_is.NoMemory cause = none_did before after log cause
+did_by Is words before after log ending_is.Told cause = none_did before after log cause.3.1
+did_by Is words before after log (ending_is.NoFile path) cause = none_did before after log cause.3.1
+did_by Is words before after log (ending_is.Found path finding) cause = none_did before after log cause.3.1
+did_by Is words before after log (ending_is.Ran h) cause = ran_did cause.0 before after log h (ending_is.Ran h) cause.3
+did_by Is words before after log (ending_is.LogFailed path h) cause = ran_did cause.0 before after log h (ending_is.LogFailed path h) cause.3
+did_by Is words before after log (ending_is.LogNotMade h) cause = ran_did cause.0 before after log h (ending_is.LogNotMade h) cause.3
+did_by Is words before after log (ending_is.Audited illegal) cause = none_did before after log cause.3.1
+did_by Is words before after log (ending_is.Shown entries) cause = none_did before after log cause.3.1
+did_by Is words before after log (ending_is.Assembled bytes) cause = let a = assembly_is cause.0 _ cause.3 in wrote_did a.1 before after log a.3.1
+did_by Is words before after log (ending_is.NotWritten path) cause = let a = assembly_is cause.0 _ cause.3 in wrote_did a.1 before after log a.3.3
 
 -- ## The files
 
@@ -350,7 +327,6 @@ keeps_files words command mid log after (ending_is.Audited illegal) says keeps =
 keeps_files words command mid log after (ending_is.Shown entries) says keeps = absurd keeps
 keeps_files words command mid log after (ending_is.Assembled bytes) says keeps = absurd keeps
 keeps_files words command mid log after (ending_is.NotWritten path) says keeps = absurd keeps
-keeps_files words command mid log after (ending_is.Loaded end) says keeps = absurd keeps
 
 ran_files : (words : List (List ℕ)) (command : Command) (before after : Seen) (log : Log) (h : How) (ending : Ending) → Says words command → RanFor command before after log h ending → KeepsFiles words before.files after.files
 ran_files words command before after log h ending says ran =
@@ -372,7 +348,6 @@ files_by Is words before after log (ending_is.Audited illegal) cause = unchanged
 files_by Is words before after log (ending_is.Shown entries) cause = unchanged words _ _ cause.3.1.files
 files_by Is words before after log (ending_is.Assembled bytes) cause = let a = assembly_is cause.0 _ cause.3 in changed words cause.0 a.1 _ _ cause.2 (ap output_of a.2) a.3.1.others
 files_by Is words before after log (ending_is.NotWritten path) cause = let a = assembly_is cause.0 _ cause.3 in changed words cause.0 a.1 _ _ cause.2 (ap output_of a.2) a.3.3.others
-files_by Is words before after log (ending_is.Loaded end) cause = unchanged words _ _ (load_files_same cause.3.0 before after log end cause.3.2)
 
 -- ## Logs that are read from files
 

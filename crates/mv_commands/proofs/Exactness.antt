@@ -22,15 +22,14 @@ use Rattle.mv_words.specs.Commands.{Says}
 use Rattle.mv_words.specs.declared.command.Command.{Command}
 use Rattle.mv_words.specs.declared.command.Command.TheVariants as ask
 use Rattle.mv_words.proofs.OneReading.{one_reading}
-use Rattle.mv_commands.specs.Lines.{Shows, status_of, audit_status, finding_status, loaded_status}
+use Rattle.mv_commands.specs.Lines.{Shows, status_of, audit_status, finding_status}
 use Rattle.mv_history.specs.declared.log.Entry.{Entry}
 use Rattle.mv_record.specs.File.{log_of}
 use Rattle.mv_inspect.specs.Audits.{HasSomeLog, StartsWith}
 use Rattle.mv_inspect.specs.Logs.{HasRecord}
 use Rattle.mv_inspect.specs.Told.{FileIs, IsMissing}
 use Rattle.mv_commands.specs.Named.{FoundAt, GoesOn, StopsAt, SaysOfModule, SaysOfRules, HasRuleFault, HasRules, IsRefused, IsRefusedBy, IsNoSchedule, IsSchedule, IsNoLog, Starts, files_of}
-use Rattle.mv_load.specs.declared.rehearsal.Loaded.{Loaded}
-use Rattle.mv_commands.specs.Causes.{LoadOf, LoadsAs, Known, Seen, CauseOf, HasCause, HasStatus, IsAbout, RunsGuest, RunOf, RanFor, IsRun, IsAudit, IsShow, AuditOf, ShowOf, Keeps, output_of, AssemblyOf, Assembles, FailsToWrite, IsAssemble, AllGoOn, Otherwise, Fails, IsExact}
+use Rattle.mv_commands.specs.Causes.{Known, Seen, CauseOf, HasCause, HasStatus, IsAbout, RunsGuest, RunOf, RanFor, IsRun, IsAudit, IsShow, AuditOf, ShowOf, Keeps, output_of, AssemblyOf, Assembles, FailsToWrite, IsAssemble, AllGoOn, Otherwise, Fails, IsExact}
 use Rattle.mv_syntax.specs.declared.fault.ValidFault.{ValidFault}
 use Rattle.mv_text.specs.Assembly.{assembled}
 use Rattle.mv_commands.specs.Named.{IsAssembly, IsNoText, IsText}
@@ -233,7 +232,6 @@ one_status (ask.Audit from old updates) told (suc (suc n)) text e f first second
 one_status (ask.Show from) told n text e f first second = log_status text e f first second
 one_status (ask.Assemble from to) told n text e f first second = text_status text e f first second
 one_status ask.Help told n text e f first second = absurd first
-one_status (ask.Load connections) told n text e f first second = absurd first
 one_status ask.Version told n text e f first second = absurd first
 
 refused_not_starts : (args : List (List ℕ)) (text : List ℕ) (f : Finding) → IsRefused args text f → Starts args text → ⊥
@@ -321,7 +319,6 @@ ends_not_on (ask.Audit from old updates) told files (suc (suc n)) text f e first
 ends_not_on (ask.Show from) told files n text f e first second = log_not_bad text f first second
 ends_not_on (ask.Assemble from to) told files n text f e first second = text_not_bad text f first second
 ends_not_on ask.Help told files n text f e first second = second
-ends_not_on (ask.Load connections) told files n text f e first second = second
 ends_not_on ask.Version told files n text f e first second = second
 
 -- ## Which of two places comes first
@@ -349,7 +346,6 @@ data Kind : Type 0 where
   for_audits : Kind
   for_shows : Kind
   for_assembly : Kind
-  for_loads : Kind
   for_help : Kind
 
 abbrev kind_of : Command → Kind
@@ -362,7 +358,6 @@ kind_of (ask.Audit from old updates) = for_audits
 kind_of (ask.Show from) = for_shows
 kind_of (ask.Assemble from to) = for_assembly
 kind_of ask.Help = for_help
-kind_of (ask.Load connections) = for_loads
 kind_of ask.Version = for_help
 
 tells_not_runs : (k : Kind) → k ≡ for_help → k ≡ for_guests → ⊥
@@ -386,21 +381,6 @@ audits_not_shows k first second = cc
 kind_not : (k a b : Kind) → (a ≡ b → ⊥) → k ≡ a → k ≡ b → ⊥
 kind_not k a b differ first second = differ (sym first ∙ second)
 
-loads_tell_nothing : for_help ≡ for_loads → ⊥
-loads_tell_nothing e = cc
-
-loads_are_no_guests : for_guests ≡ for_loads → ⊥
-loads_are_no_guests e = cc
-
-loads_are_no_audits : for_audits ≡ for_loads → ⊥
-loads_are_no_audits e = cc
-
-loads_are_no_shows : for_shows ≡ for_loads → ⊥
-loads_are_no_shows e = cc
-
-loads_are_no_assembly : for_assembly ≡ for_loads → ⊥
-loads_are_no_assembly e = cc
-
 help_is_other : for_help ≡ for_assembly → ⊥
 help_is_other e = cc
 
@@ -416,7 +396,6 @@ shows_are_other e = cc
 about_tells : (command : Command) → IsAbout command → kind_of command ≡ for_help
 about_tells ask.Help about = refl
 about_tells (ask.Assemble from to) about = absurd about
-about_tells (ask.Load connections) about = absurd about
 about_tells ask.Version about = refl
 about_tells (ask.Run old args) about = absurd about
 about_tells (ask.Rehearse old schedule args ring to) about = absurd about
@@ -436,7 +415,6 @@ guest_runs (ask.Assemble from to) guest = absurd guest
 guest_runs (ask.Audit from old updates) guest = absurd guest
 guest_runs (ask.Show from) guest = absurd guest
 guest_runs ask.Help guest = absurd guest
-guest_runs (ask.Load connections) guest = absurd guest
 guest_runs ask.Version guest = absurd guest
 
 is_audit : (command : Command) → IsAudit command → kind_of command ≡ for_audits
@@ -449,7 +427,6 @@ is_audit (ask.Rules forward) audit = absurd audit
 is_audit (ask.Assemble from to) audit = absurd audit
 is_audit (ask.Show from) audit = absurd audit
 is_audit ask.Help audit = absurd audit
-is_audit (ask.Load connections) audit = absurd audit
 is_audit ask.Version audit = absurd audit
 
 is_show : (command : Command) → IsShow command → kind_of command ≡ for_shows
@@ -462,7 +439,6 @@ is_show (ask.Rules forward) show = absurd show
 is_show (ask.Assemble from to) show = absurd show
 is_show (ask.Audit from old updates) show = absurd show
 is_show ask.Help show = absurd show
-is_show (ask.Load connections) show = absurd show
 is_show ask.Version show = absurd show
 
 ran_runs : (command : Command) (seen mid : Seen) (log : Log) (h : How) → RunOf command seen mid log h → kind_of command ≡ for_guests
@@ -475,7 +451,6 @@ ran_runs (ask.Audit from old updates) seen mid log h ran = absurd ran
 ran_runs (ask.Show from) seen mid log h ran = absurd ran
 ran_runs (ask.Assemble from to) seen mid log h ran = absurd ran
 ran_runs ask.Help seen mid log h ran = absurd ran
-ran_runs (ask.Load connections) seen mid log h ran = absurd ran
 ran_runs ask.Version seen mid log h ran = absurd ran
 
 audited_audits : (command : Command) (told : Option FileMap) (answer : Option ℕ) → AuditOf command told answer → kind_of command ≡ for_audits
@@ -488,7 +463,6 @@ audited_audits (ask.Rules forward) told answer audited = absurd audited
 audited_audits (ask.Show from) told answer audited = absurd audited
 audited_audits (ask.Assemble from to) told answer audited = absurd audited
 audited_audits ask.Help told answer audited = absurd audited
-audited_audits (ask.Load connections) told answer audited = absurd audited
 audited_audits ask.Version told answer audited = absurd audited
 
 shown_shows : (command : Command) (told : Option FileMap) (entries : List Entry) → ShowOf command told entries → kind_of command ≡ for_shows
@@ -501,18 +475,13 @@ shown_shows (ask.Rules forward) told entries shown = absurd shown
 shown_shows (ask.Audit from old updates) told entries shown = absurd shown
 shown_shows (ask.Assemble from to) told entries shown = absurd shown
 shown_shows ask.Help told entries shown = absurd shown
-shown_shows (ask.Load connections) told entries shown = absurd shown
 shown_shows ask.Version told entries shown = absurd shown
-
-same_load : (a b : ℕ) → ask.Load a ≡ ask.Load b → a ≡ b
-same_load a b e = cc
 
 no_more : (n : ℕ) (path : List ℕ) → slice_get no_texts n ≡ Some path → ⊥
 no_more n path named = cc
 
 no_files : (command : Command) (n : ℕ) (path : List ℕ) → IsAbout command → slice_get (files_of command) n ≡ Some path → ⊥
 no_files ask.Help n path about named = no_more n path named
-no_files (ask.Load connections) n path about named = about
 no_files ask.Version n path about named = no_more n path named
 no_files (ask.Run old args) n path about named = about
 no_files (ask.Rehearse old schedule args ring to) n path about named = about
@@ -549,7 +518,6 @@ ran_goes (ask.Audit from old updates) seen mid log h ran = absurd ran
 ran_goes (ask.Show from) seen mid log h ran = absurd ran
 ran_goes (ask.Assemble from to) seen mid log h ran = absurd ran
 ran_goes ask.Help seen mid log h ran = absurd ran
-ran_goes (ask.Load connections) seen mid log h ran = absurd ran
 ran_goes ask.Version seen mid log h ran = absurd ran
 
 ran_ends : (command : Command) (seen mid : Seen) (log : Log) (h : How) → RunOf command seen mid log h → EndsBy log.entries.list h
@@ -562,7 +530,6 @@ ran_ends (ask.Audit from old updates) seen mid log h ran = absurd ran
 ran_ends (ask.Show from) seen mid log h ran = absurd ran
 ran_ends (ask.Assemble from to) seen mid log h ran = absurd ran
 ran_ends ask.Help seen mid log h ran = absurd ran
-ran_ends (ask.Load connections) seen mid log h ran = absurd ran
 ran_ends ask.Version seen mid log h ran = absurd ran
 
 -- the files may have failed before the run ended
@@ -579,7 +546,6 @@ ran_later (ask.Audit from old updates) seen mid log h ran = absurd ran
 ran_later (ask.Show from) seen mid log h ran = absurd ran
 ran_later (ask.Assemble from to) seen mid log h ran = absurd ran
 ran_later ask.Help seen mid log h ran = absurd ran
-ran_later (ask.Load connections) seen mid log h ran = absurd ran
 ran_later ask.Version seen mid log h ran = absurd ran
 
 -- the file of the log that was audited or shown is one
@@ -607,7 +573,6 @@ audited_goes (ask.Rules forward) told answer audited = absurd audited
 audited_goes (ask.Show from) told answer audited = absurd audited
 audited_goes (ask.Assemble from to) told answer audited = absurd audited
 audited_goes ask.Help told answer audited = absurd audited
-audited_goes (ask.Load connections) told answer audited = absurd audited
 audited_goes ask.Version told answer audited = absurd audited
 
 shown_goes : (command : Command) (told : Option FileMap) (entries : List Entry) → ShowOf command told entries → AllGoOn command told
@@ -620,7 +585,6 @@ shown_goes (ask.Rules forward) told entries shown = absurd shown
 shown_goes (ask.Audit from old updates) told entries shown = absurd shown
 shown_goes (ask.Assemble from to) told entries shown = absurd shown
 shown_goes ask.Help told entries shown = absurd shown
-shown_goes (ask.Load connections) told entries shown = absurd shown
 shown_goes ask.Version told entries shown = absurd shown
 
 -- a text that was assembled is one
@@ -635,9 +599,6 @@ assembled_kind command P holds = let a = assembly_is command P holds in ap kind_
 output_goes : (seen after : Seen) (log : Log) (bytes : ℕ) (from to : List ℕ) → Assembles seen after log bytes from to → FileIs seen.files from IsText
 output_goes seen after log bytes from to made files e = (made.0.text, made.0.stands files e, (made.0.file, made.0.is_assembly))
 
-load_goes : (command : Command) (n : ℕ) (told : Option FileMap) → command ≡ ask.Load n → AllGoOn command told
-load_goes command n told is = subst (λ (c : Command). AllGoOn c told) (sym is) (λ k path named. absurd (no_more k path named))
-
 -- ## Every ending against what the words and the files say
 
 -- the command came to its end: a guest ran, or a log was audited or shown
@@ -649,7 +610,6 @@ data Done (command : Command) (seen after : Seen) (log : Log) (ending : Ending) 
   made : (bytes : ℕ) → ending ≡ ending_is.Assembled bytes → AssemblyOf command (Assembles seen after log bytes) → Done command seen after log ending
   unwritten : (path : List ℕ) → ending ≡ ending_is.NotWritten path → AssemblyOf command (FailsToWrite seen after log path) → Done command seen after log ending
   shown_by : (entries : List Entry) → status_of ending ≡ 0 → ShowOf command seen.files entries → Done command seen after log ending
-  loads : (end : Loaded) → ending ≡ ending_is.Loaded end → LoadOf command seen after log end → Done command seen after log ending
 
 done_goes : (command : Command) (seen after : Seen) (log : Log) (ending : Ending) → Done command seen after log ending → AllGoOn command seen.files
 done_goes command seen after log ending (ran h e was) = ran_goes command seen was.0 log h was.1
@@ -659,7 +619,6 @@ done_goes command seen after log ending (audited answer is was) = audited_goes c
 done_goes command seen after log ending (made bytes e was) = assembled_goes command seen.files _ was (output_goes seen after log bytes)
 done_goes command seen after log ending (unwritten path e was) = assembled_goes command seen.files _ was (λ from to fails. fails.1)
 done_goes command seen after log ending (shown_by entries is was) = shown_goes command seen.files entries was
-done_goes command seen after log ending (loads end e was) = load_goes command was.0 seen.files was.1
 
 done_not_about : (command : Command) (seen after : Seen) (log : Log) (ending : Ending) → Done command seen after log ending → IsAbout command → ⊥
 done_not_about command seen after log ending (ran h e was) about = tells_not_runs (kind_of command) (about_tells command about) (ran_runs command seen was.0 log h was.1)
@@ -669,7 +628,6 @@ done_not_about command seen after log ending (audited answer is was) about = tel
 done_not_about command seen after log ending (made bytes e was) about = kind_not (kind_of command) for_help for_assembly help_is_other (about_tells command about) (assembled_kind command _ was)
 done_not_about command seen after log ending (unwritten path e was) about = kind_not (kind_of command) for_help for_assembly help_is_other (about_tells command about) (assembled_kind command _ was)
 done_not_about command seen after log ending (shown_by entries is was) about = tells_not_shows (kind_of command) (about_tells command about) (shown_shows command seen.files entries was)
-done_not_about command seen after log ending (loads end e was) about = kind_not (kind_of command) for_help for_loads loads_tell_nothing (about_tells command about) (ap kind_of was.1)
 
 module _ (Is : Known) (words : List (List ℕ)) (seen after : Seen) (log : Log) (sink : ℕ × ℕ) (status : ℕ) where
   memory_is : (status ≡ 9) ⊎ Otherwise sink status → Otherwise sink status
@@ -691,7 +649,6 @@ module _ (Is : Known) (words : List (List ℕ)) (seen after : Seen) (log : Log) 
   bad_words_is (ending_is.Shown entries) cause shows none = absurd (none cause.0 cause.1 cause.2)
   bad_words_is (ending_is.Assembled bytes) cause shows none = absurd (none cause.0 cause.1 cause.2)
   bad_words_is (ending_is.NotWritten path) cause shows none = absurd (none cause.0 cause.1 cause.2)
-  bad_words_is (ending_is.Loaded end) cause shows none = absurd (none cause.0 cause.1 cause.2)
 
   -- the cause is one of this command
   of_command : (command : Command) (ending : Ending) → Says words command → (found : (c : Command) × Is c × Says words c × CauseOf c seen after log ending) → CauseOf command seen after log ending
@@ -719,7 +676,6 @@ module _ (Is : Known) (words : List (List ℕ)) (seen after : Seen) (log : Log) 
   case_of command (ending_is.Audited illegal) is says cause = done (audited illegal refl (of_command command (ending_is.Audited illegal) says cause).0)
   case_of command (ending_is.Assembled bytes) is says cause = done (made bytes refl (of_command command (ending_is.Assembled bytes) says cause))
   case_of command (ending_is.NotWritten path) is says cause = done (unwritten path refl (of_command command (ending_is.NotWritten path) says cause))
-  case_of command (ending_is.Loaded end) is says cause = done (loads end refl (of_command command (ending_is.Loaded end) says cause))
   case_of command (ending_is.Shown entries) is says cause = done (shown_by entries.list refl (of_command command (ending_is.Shown entries) says cause).0)
 
   status_by : (ending other : Ending) → ending ≡ other → (status ≡ status_of ending) ⊎ Otherwise sink status → (status ≡ status_of other) ⊎ Otherwise sink status
@@ -832,7 +788,6 @@ module _ (Is : Known) (words : List (List ℕ)) (seen after : Seen) (log : Log) 
   ran_is command ending guest (inl (made bytes e was)) shows = absurd (kind_not (kind_of command) for_guests for_assembly guests_are_other (guest_runs command guest) (assembled_kind command _ was))
   ran_is command ending guest (inl (unwritten path e was)) shows = absurd (kind_not (kind_of command) for_guests for_assembly guests_are_other (guest_runs command guest) (assembled_kind command _ was))
   ran_is command ending guest (inl (shown_by entries e was)) shows = absurd (runs_not_shows (kind_of command) (guest_runs command guest) (shown_shows command seen.files entries was))
-  ran_is command ending guest (inl (loads end e was)) shows = absurd (kind_not (kind_of command) for_guests for_loads loads_are_no_guests (guest_runs command guest) (ap kind_of was.1))
 
   audited_is : (command : Command) (ending : Ending) → IsAudit command → Done command seen after log ending ⊎ Fails seen after sink status → (status ≡ status_of ending) ⊎ Otherwise sink status
       → ((answer : Option ℕ) × AuditOf command seen.files answer × (status ≡ audit_status answer)) ⊎ Fails seen after sink status
@@ -844,7 +799,6 @@ module _ (Is : Known) (words : List (List ℕ)) (seen after : Seen) (log : Log) 
   audited_is command ending audit (inl (made bytes e was)) shows = absurd (kind_not (kind_of command) for_audits for_assembly audits_are_other (is_audit command audit) (assembled_kind command _ was))
   audited_is command ending audit (inl (unwritten path e was)) shows = absurd (kind_not (kind_of command) for_audits for_assembly audits_are_other (is_audit command audit) (assembled_kind command _ was))
   audited_is command ending audit (inl (shown_by entries e was)) shows = absurd (audits_not_shows (kind_of command) (is_audit command audit) (shown_shows command seen.files entries was))
-  audited_is command ending audit (inl (loads end e was)) shows = absurd (kind_not (kind_of command) for_audits for_loads loads_are_no_audits (is_audit command audit) (ap kind_of was.1))
 
   shown_is : (command : Command) (ending : Ending) → IsShow command → Done command seen after log ending ⊎ Fails seen after sink status → (status ≡ status_of ending) ⊎ Otherwise sink status
       → (status ≡ 0) ⊎ Fails seen after sink status
@@ -857,7 +811,6 @@ module _ (Is : Known) (words : List (List ℕ)) (seen after : Seen) (log : Log) 
   shown_is command ending show (inl (made bytes e was)) shown = absurd (kind_not (kind_of command) for_shows for_assembly shows_are_other (is_show command show) (assembled_kind command _ was))
   shown_is command ending show (inl (unwritten path e was)) shown = absurd (kind_not (kind_of command) for_shows for_assembly shows_are_other (is_show command show) (assembled_kind command _ was))
   shown_is command ending show (inl (audited answer e was)) shown = absurd (audits_not_shows (kind_of command) (audited_audits command seen.files answer was) (is_show command show))
-  shown_is command ending show (inl (loads end e was)) shown = absurd (kind_not (kind_of command) for_shows for_loads loads_are_no_shows (is_show command show) (ap kind_of was.1))
 
   assembled_is : (command : Command) (ending : Ending) → IsAssemble command → Done command seen after log ending ⊎ Fails seen after sink status → (status ≡ status_of ending) ⊎ Otherwise sink status
       → (status ≡ 0) ⊎ Fails seen after sink status
@@ -871,25 +824,6 @@ module _ (Is : Known) (words : List (List ℕ)) (seen after : Seen) (log : Log) 
   assembled_is command ending asks (inl (unmade h e was)) look = absurd (kind_not (kind_of command) for_guests for_assembly guests_are_other (ran_runs command seen was.0 log h was.1) (assembled_kind command _ asks))
   assembled_is command ending asks (inl (audited answer e was)) look = absurd (kind_not (kind_of command) for_audits for_assembly audits_are_other (audited_audits command seen.files answer was) (assembled_kind command _ asks))
   assembled_is command ending asks (inl (shown_by entries e was)) look = absurd (kind_not (kind_of command) for_shows for_assembly shows_are_other (shown_shows command seen.files entries was) (assembled_kind command _ asks))
-  assembled_is command ending asks (inl (loads end e was)) look = absurd (kind_not (kind_of command) for_assembly for_loads loads_are_no_assembly (assembled_kind command _ asks) (ap kind_of was.1))
-
-  loaded_is : (n : ℕ) (ending : Ending) → Case (ask.Load n) ending → (status ≡ status_of ending) ⊎ Otherwise sink status
-      → ((end : Loaded) × LoadsAs n seen after log end × (status ≡ loaded_status end)) ⊎ Otherwise sink status
-  loaded_is n ending (gone path e stops) look = absurd (no_more stops.number path stops.named)
-  loaded_is n ending (found path finding e stops) look = absurd (no_more stops.number path stops.named)
-  loaded_is n ending (wanted e) look = inr (memory_is (status_by ending ending_is.NoMemory e look))
-  loaded_is n ending (said e about) look = absurd about
-  loaded_is n ending (done (ran h e was)) look = absurd was.1
-  loaded_is n ending (done (unkept path h e was)) look = absurd was.1
-  loaded_is n ending (done (unmade h e was)) look = absurd was.1
-  loaded_is n ending (done (audited answer e was)) look = absurd was
-  loaded_is n ending (done (made bytes e was)) look = absurd was
-  loaded_is n ending (done (unwritten path e was)) look = absurd was
-  loaded_is n ending (done (shown_by entries e was)) look = absurd was
-  loaded_is n ending (done (loads end e was)) look = elim (status_by ending (ending_is.Loaded end) e look) [
-    | inl is ↦ inl (end, subst (λ (k : ℕ). LoadsAs k seen after log end) (same_load was.0 n (sym was.1)) was.2, is)
-    | inr other ↦ inr other
-  ]
 
   assemble_not_about : (command : Command) → IsAssemble command → IsAbout command → ⊥
   assemble_not_about command asks about = kind_not (kind_of command) for_help for_assembly help_is_other (about_tells command about) (assembled_kind command _ asks)
@@ -918,6 +852,5 @@ exact_is Is words seen after log printed sink status has =
       audited = λ command files is says audit told goes. audited_is Is words seen after log sink status command ending audit (to_end command files is says (audit_not_about Is words seen after log sink status command audit) told goes) look;
       assembled = λ command files is says asks told goes. assembled_is Is words seen after log sink status command ending asks (to_end command files is says (assemble_not_about Is words seen after log sink status command asks) told goes) look;
       shown = λ command files is says show told goes. shown_is Is words seen after log sink status command ending show (to_end command files is says (show_not_about Is words seen after log sink status command show) told goes) look;
-      loaded = λ n is says. loaded_is Is words seen after log sink status n ending (by (ask.Load n) is says) look;
       ran = λ command files is says guest told goes. ran_is Is words seen after log sink status command ending guest (to_end command files is says (guest_not_about Is words seen after log sink status command guest) told goes) look;
     }

@@ -1,12 +1,11 @@
 -- What holds where a command line comes to an ending, and which ending comes (docs/GUIDE.md, "Statuses").
-use Rattle.std.specs.Prelude.{◌≡◌, ◌≤◌, ◌⊎◌, ℕ, List, [], ◌∷◌, Option, Some, None, length, slice_get, Ok, Err}
+use Rattle.std.specs.Prelude.{◌≡◌, ◌≤◌, ◌⊎◌, ℕ, List, [], ◌∷◌, Option, Some, None, length, slice_get, Ok}
 use Rattle.mv_calls.specs.declared.calls.Item.{Item}
 use Rattle.mv_outside.specs.Began.{Began}
 use Rattle.mv_outside.specs.Causes.{Rose}
 use Rattle.mv_outside.specs.Files.{ChangesOnly, FileMap, HasFile}
-use Rattle.mv_outside.specs.Told.{told_more}
 use Rattle.mv_history.specs.Ends.{EndsBy}
-use Rattle.mv_history.specs.World.{AreLegal, begun, outside, texts}
+use Rattle.mv_history.specs.World.{AreLegal, begun, texts}
 use Rattle.mv_history.specs.declared.log.Entry.{Entry}
 use Rattle.mv_history.specs.declared.log.How.{How}
 use Rattle.mv_history.specs.declared.log.How.TheVariants as how
@@ -24,18 +23,12 @@ use Rattle.mv_record.specs.Fitting.{IsFile}
 use Rattle.mv_inspect.specs.Audits.{AreInThrees, IsAudited}
 use Rattle.mv_inspect.specs.Logs.{HasLog}
 use Rattle.mv_inspect.specs.Told.{FileIs, IsMissing, StandsAt}
-use Rattle.mv_load.specs.Figures.{figures_of}
-use Rattle.mv_load.specs.Files.{guest_file}
-use Rattle.mv_load.specs.Loads.{IsLoad}
-use Rattle.mv_load.specs.declared.guests.Demo.TheVariants as demo
-use Rattle.mv_load.specs.declared.rehearsal.Loaded.{Loaded}
-use Rattle.mv_load.specs.declared.rehearsal.Loaded.TheVariants as loaded
-use Rattle.mv_commands.specs.Lines.{Shows, audit_status, finding_status, loaded_status}
+use Rattle.mv_commands.specs.Lines.{Shows, audit_status, finding_status}
 use Rattle.mv_commands.specs.Named.{FoundAt, GoesOn, IsAssembly, IsText, StopsAt, files_of}
-use Rattle.mv_schedule.specs.Schedules.{schedule_of}
+use Rattle.mv_commands.specs.Schedules.{schedule_of}
 use Rattle.mv_commands.specs.declared.ending.Finding.{Finding}
 use Rattle.mv_commands.specs.declared.ending.Ending.{Ending}
-use Rattle.mv_commands.specs.declared.ending.Ending.TheVariants.{BadWords, NoMemory, Told, NoFile, Found, Ran, LogFailed, LogNotMade, Audited, Shown, Assembled, NotWritten, Loaded as ByLoad}
+use Rattle.mv_commands.specs.declared.ending.Ending.TheVariants.{BadWords, NoMemory, Told, NoFile, Found, Ran, LogFailed, LogNotMade, Audited, Shown, Assembled, NotWritten}
 
 -- what kernel, console and files tell at a moment, and how often each has failed
 pub record Seen : Type 0 where
@@ -245,23 +238,11 @@ Assembles before after log bytes from to = IsOutput before.files from after.file
 abbrev pub FailsToWrite : Seen → Seen → Log → List ℕ → List ℕ → List ℕ → Type 0
 FailsToWrite before after log path from to = (path ≡ to) × FileIs before.files from IsText × Rose before.file_faults after.file_faults × WroteAlone to before after log
 
--- ## A load
-
--- nothing outside changed, and the log is that of a load of n connections, which ended so and has these figures; or the guest of a
--- load doesn't start, by this fault
-abbrev pub LoadsAs : ℕ → Seen → Seen → Log → Loaded → Type 0
-LoadsAs n before after log (loaded.Ended h figures) = IsLoad n log × EndsBy log.entries.list h × (figures ≡ figures_of log.entries.list) × (after ≡ before)
-LoadsAs n before after log (loaded.Refused fault) = (started (guest_file demo.Old) [] ≡ Err fault) × NoGuest before after log
-
-abbrev pub LoadOf : Command → Seen → Seen → Log → Loaded → Type 0
-LoadOf command before after log end = (n : ℕ) × (command ≡ ask.Load n) × LoadsAs n before after log end
-
--- the capacity that a command gives is one of a feed, the files of updates come in threes, and a load has few enough connections
+-- the capacity that a command gives is one of a feed, and the files of updates come in threes
 abbrev pub IsFeasible : Command → Type 0
 IsFeasible (ask.Rehearse old schedule args ring log) = (4 ≤ ring) × (ring ≤ 4096)
 IsFeasible (ask.Serve old args ring log) = (4 ≤ ring) × (ring ≤ 4096)
 IsFeasible (ask.Audit log old updates) = AreInThrees updates
-IsFeasible (ask.Load n) = n ≤ 10000
 IsFeasible command = Unit {0}
 
 -- which commands there are: each, or each that starts no thread
@@ -291,7 +272,6 @@ CauseOf command before after log (Audited illegal) = AuditOf command before.file
 CauseOf command before after log (Shown entries) = ShowOf command before.files entries.list × NoGuest before after log
 CauseOf command before after log (Assembled bytes) = AssemblyOf command (Assembles before after log bytes)
 CauseOf command before after log (NotWritten path) = AssemblyOf command (FailsToWrite before after log path)
-CauseOf command before after log (ByLoad end) = LoadOf command before after log end
 
 -- of these words, over the commands that there are; where memory was wanted before they were read, nobody knows what they say
 abbrev pub HasCause : Known → List (List ℕ) → Seen → Seen → Log → Ending → Type 0
@@ -333,21 +313,9 @@ pub record IsExact (Is : Known) (words : List (List ℕ)) (before after : Seen) 
       (status ≡ 0) ⊎ Fails before after sink_faults status
   pub shown : (command : Command) (files : FileMap) → Is command → Says words command → IsShow command → before.files ≡ Some files → AllGoOn command before.files →
       (status ≡ 0) ⊎ Fails before after sink_faults status
-  pub loaded : (n : ℕ) → Is (ask.Load n) → Says words (ask.Load n) →
-      ((end : Loaded) × LoadsAs n before after log end × (status ≡ loaded_status end)) ⊎ Otherwise sink_faults status
   pub ran : (command : Command) (files : FileMap) → Is command → Says words command → RunsGuest command → before.files ≡ Some files →
       AllGoOn command before.files →
       ((h : How) × EndsBy log.entries.list h × (status ≡ end_status h)) ⊎ Fails before after sink_faults status
-
--- ## The calls
-
--- the words ask for a load, whose kernel is one of its own
-abbrev pub AsksLoad : List (List ℕ) → Type 0
-AsksLoad words = (n : ℕ) × Says words (ask.Load n)
-
--- the calls that the kernel did are exactly the log's; where the words ask for a load it did none
-abbrev pub DidTheLog : List (List ℕ) → Option (List Item) → Option (List Item) → Log → Type 0
-DidTheLog words done now log = (now ≡ told_more done (outside log.entries.list)) ⊎ (AsksLoad words × (now ≡ done))
 
 -- ## The log
 

@@ -1,5 +1,6 @@
 -- In the order to read: the lines and statuses, schedules, what named files are, what holds of each ending.
 pub mod Lines
+pub mod Schedules
 pub mod Named
 pub mod Causes
 pub mod Loading

@@ -1,5 +1,5 @@
 -- The status and the line of each ending (docs/GUIDE.md, "Statuses"; docs/FORMATS.md, "Fault lines").
-use Rattle.std.specs.Prelude.{◌≡◌, ℕ, ◌==◌, if◌then◌else◌, List, [], ◌∷◌, ◌++◌, codes, decimal, Option, Some, None, ◌⊎◌}
+use Rattle.std.specs.Prelude.{◌≡◌, ℕ, List, [], ◌∷◌, ◌++◌, codes, decimal, Option, Some, None, ◌⊎◌}
 use Rattle.mv_syntax.specs.declared.fault.StartFault.{StartFault}
 use Rattle.mv_syntax.specs.declared.fault.StartFault.TheVariants as start
 use Rattle.mv_syntax.specs.declared.fault.BornFault.{BornFault}
@@ -10,21 +10,17 @@ use Rattle.mv_record.specs.declared.fault.RecordKind.{RecordKind}
 use Rattle.mv_record.specs.declared.fault.RecordKind.TheVariants as record_kind
 use Rattle.mv_show.specs.Lines.{log_text}
 use Rattle.mv_show.specs.Names.{trap_text, read_kind_text, valid_kind_text, rule_kind_text}
-use Rattle.mv_orders.specs.Reply.{stage_name}
-use Rattle.mv_load.specs.declared.figures.Figures.{Figures}
-use Rattle.mv_load.specs.declared.rehearsal.Loaded.{Loaded}
-use Rattle.mv_load.specs.declared.rehearsal.Loaded.TheVariants as loaded
 use Rattle.mv_history.specs.declared.log.How.{How}
 use Rattle.mv_history.specs.declared.log.How.TheVariants as how
 use Rattle.mv_rehearse.specs.Runs.{end_status}
 use Rattle.mv_outside.specs.Causes.{Rose}
 use Rattle.mv_outside.specs.Told.{told_more, AddsPart}
-use Rattle.mv_schedule.specs.declared.schedule.ScheduleFault.{ScheduleFault}
-use Rattle.mv_schedule.specs.declared.schedule.ScheduleFault.TheVariants.{Letter, Limit}
+use Rattle.mv_commands.specs.declared.ending.ScheduleFault.{ScheduleFault}
+use Rattle.mv_commands.specs.declared.ending.ScheduleFault.TheVariants.{Letter, Limit}
 use Rattle.mv_commands.specs.declared.ending.Finding.{Finding}
 use Rattle.mv_commands.specs.declared.ending.Finding.TheVariants.{Refused, Valid, BadRules, Rules, BadSchedule, BadLog, BadText}
 use Rattle.mv_commands.specs.declared.ending.Ending.{Ending}
-use Rattle.mv_commands.specs.declared.ending.Ending.TheVariants.{BadWords, NoMemory, Told, NoFile, Found, Ran, LogFailed, LogNotMade, Audited, Shown, Assembled, NotWritten, Loaded as ByLoad}
+use Rattle.mv_commands.specs.declared.ending.Ending.TheVariants.{BadWords, NoMemory, Told, NoFile, Found, Ran, LogFailed, LogNotMade, Audited, Shown, Assembled, NotWritten}
 
 -- ## Names
 
@@ -105,27 +101,13 @@ abbrev pub audit_text : Option ℕ → List ℕ
 audit_text None = codes "yes" ++ line_feed
 audit_text (Some entry) = codes "no " ++ (decimal entry ++ line_feed)
 
-abbrev pub figure_text : List ℕ → ℕ → List ℕ
-figure_text name n = name ++ (decimal n ++ line_feed)
-
--- the six lines of a load; its log is legal
-abbrev pub figures_text : Figures → List ℕ
-figures_text figures =
-    figure_text (codes "calls ") figures.calls ++ (figure_text (codes "bytes ") figures.bytes ++ (figure_text (codes "forks ") figures.forks ++
-    (figure_text (codes "promotes ") figures.promotes ++ (codes "stage " ++ (stage_name figures.stage ++ (line_feed ++ (codes "audit yes" ++ line_feed)))))))
-
--- the lines of a load that ended well; else its end, or the fault of its guest
-abbrev pub loaded_text : Loaded → List ℕ
-loaded_text (loaded.Ended h figures) = if end_status h == 0 then figures_text figures else end_text h
-loaded_text (loaded.Refused fault) = refusal_text (codes "old") fault
-
 abbrev pub missing_text : List ℕ → List ℕ
 missing_text path = codes "mv: file " ++ (path ++ line_feed)
 
 abbrev pub no_memory_text : List ℕ
 no_memory_text = codes "no memory" ++ line_feed
 
--- the line that says an ending; of a log that is shown there is a line for each entry, of a load there are six, and what the program says of itself is any
+-- the line that says an ending; of a log that is shown there is a line for each entry, and what the program says of itself is any
 -- text
 abbrev pub IsLine : Ending → List ℕ → Type 0
 IsLine BadWords text = text ≡ codes "mv: bad words" ++ line_feed
@@ -140,7 +122,6 @@ IsLine (Audited illegal) text = text ≡ audit_text illegal
 IsLine (Shown entries) text = text ≡ log_text entries.list
 IsLine (Assembled bytes) text = text ≡ codes "bytes " ++ (decimal bytes ++ line_feed)
 IsLine (NotWritten path) text = text ≡ missing_text path
-IsLine (ByLoad end) text = text ≡ loaded_text end
 
 -- ## Statuses
 
@@ -157,10 +138,6 @@ abbrev pub audit_status : Option ℕ → ℕ
 audit_status None = 0
 audit_status (Some entry) = 8
 
-abbrev pub loaded_status : Loaded → ℕ
-loaded_status (loaded.Ended h figures) = end_status h
-loaded_status (loaded.Refused fault) = 4
-
 abbrev pub status_of : Ending → ℕ
 status_of BadWords = 2
 status_of NoMemory = 9
@@ -174,7 +151,6 @@ status_of (Audited illegal) = audit_status illegal
 status_of (Shown entries) = 0
 status_of (Assembled bytes) = 0
 status_of (NotWritten path) = 3
-status_of (ByLoad end) = loaded_status end
 
 -- An ending shows by its status and its whole line; or by 7 where the sink failed, with a part of the line; or by 9 for
 -- want of memory, with nothing.

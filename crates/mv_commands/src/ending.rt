@@ -2,12 +2,19 @@
 
 use mv_calls::Bytes;
 use mv_history::{Entries, How};
-use mv_load::Loaded;
 use mv_record::RecordFault;
 use mv_rules::RuleFault;
-use mv_schedule::ScheduleFault;
 use mv_syntax::BornFault;
 use mv_text::TextFault;
+
+/// Why a schedule is refused.
+#[derive(Clone, Copy, PartialEq, Eq, Debug)]
+pub enum ScheduleFault {
+    /// The byte at this place, from 0, is no letter of a beat, no space and no line feed.
+    Letter { place: u64 },
+    /// The file has more than 16 MiB.
+    Limit,
+}
 
 /// What a named file is found to be, where no guest runs for it.
 #[derive(Clone, Copy, PartialEq, Eq, Debug)]
@@ -53,8 +60,6 @@ pub enum Ending {
     Assembled { bytes: u64 },
     /// A text was assembled, and the module couldn't be written to the file of this path.
     NotWritten { path: Bytes },
-    /// A load was rehearsed, over objects of its own.
-    Loaded(Loaded),
     /// The entries of a log, to be shown.
     Shown { entries: Entries },
 }

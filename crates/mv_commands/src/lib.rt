@@ -6,12 +6,11 @@ mod carrying;
 mod ending;
 mod fault_lines;
 mod judging;
-mod loads;
 mod keeping;
 mod loading;
 mod running;
 mod showing;
 
 pub use carrying::{carry_out, program};
-pub use ending::{Ending, Finding};
+pub use ending::{Ending, Finding, ScheduleFault};
 pub use mv_rehearse::Outcome;

@@ -1,14 +1,12 @@
 //! The one line that a command prints, and its status.
 ghost use Rattle.std.specs.Prelude.{◌≡◌, ◌++◌, codes, decimal, IfOk, List, ℕ};
 ghost use Rattle.mv_rehearse.specs.Runs.{end_status};
-ghost use Rattle.mv_commands.specs.Lines.{IsLine, Shows, audit_text, line_feed, end_text, finding_status, loaded_status as status_of_load, loaded_text, missing_text, status_of};
+ghost use Rattle.mv_commands.specs.Lines.{IsLine, Shows, audit_text, line_feed, end_text, finding_status, missing_text, status_of};
 
 use crate::ending::{Ending, Finding};
-use crate::fault_lines::{add_number, finding_line, refusal_line};
-use crate::loads::figures_lines;
+use crate::fault_lines::{add_number, finding_line};
 use mv_calls::{Bytes, Or, OutOfMemory};
 use mv_history::How;
-use mv_load::Loaded;
 use mv_outside::Sink;
 use mv_show::{log_lines, trap_name};
 use std::alloc::Global;
@@ -28,7 +26,6 @@ mv rules FWD\n\
 mv audit LOG OLD [M FWD REV ..]\n\
 mv show LOG\n\
 mv assemble TEXT OUT\n\
-mv load N\n\
 run, rehearse and serve: [--listen ADDRESS] [--console ADDRESS]\n";
 
 /// The line of a file that is missing.
@@ -91,25 +88,6 @@ fn bytes_line(alloc: Global, bytes: u64) -> Result<Vec<u8>, OutOfMemory>
     Ok(line)
 }
 
-/// The lines of a load: its figures where it ended well, else its end, or the fault of its guest.
-fn load_lines(alloc: Global, loaded: &Loaded) -> Result<Vec<u8>, OutOfMemory>
-    ensures { IfOk result (λ lines. lines.items ≡ loaded_text loaded.now) }
-{
-    match loaded {
-        Loaded::Ended { how, figures } => {
-            if ran_status(*how) == 0 {
-                figures_lines(alloc, figures)
-            } else {
-                end_line(alloc, *how)
-            }
-        }
-        Loaded::Refused(fault) => {
-            let path = Bytes::from_slice(alloc, b"old")?;
-            refusal_line(alloc, &path, *fault)
-        }
-    }
-}
-
 /// The line that says an ending.
 fn line(alloc: Global, ending: &Ending) -> Result<Vec<u8>, OutOfMemory>
     ensures { IfOk result (λ line. IsLine ending.now line.items) }
@@ -125,7 +103,6 @@ fn line(alloc: Global, ending: &Ending) -> Result<Vec<u8>, OutOfMemory>
         Ending::LogNotMade(_) => Ok(Vec::from_slice(alloc, b"no memory\n")?),
         Ending::Audited { illegal } => audit_line(alloc, *illegal),
         Ending::Shown { entries } => log_lines(alloc, entries.slice()),
-        Ending::Loaded(loaded) => load_lines(alloc, loaded),
         Ending::Assembled { bytes } => bytes_line(alloc, *bytes),
         Ending::NotWritten { path } => missing_line(alloc, path),
     }
@@ -159,16 +136,6 @@ fn ran_status(how: How) -> u8
     }
 }
 
-/// The status of a load.
-fn loaded_status(loaded: &Loaded) -> u8
-    ensures { result ≡ status_of_load loaded.now }
-{
-    match loaded {
-        Loaded::Ended { how, .. } => ran_status(*how),
-        Loaded::Refused(_) => 4,
-    }
-}
-
 /// The status that the process exits with, where the line is printed.
 fn status(ending: &Ending) -> u8
     ensures { result ≡ status_of ending.now }
@@ -185,7 +152,6 @@ fn status(ending: &Ending) -> u8
         Ending::Audited { illegal: None } => 0,
         Ending::Audited { illegal: Some(_) } => 8,
         Ending::Shown { .. } => 0,
-        Ending::Loaded(loaded) => loaded_status(loaded),
         Ending::Assembled { .. } => 0,
         Ending::NotWritten { .. } => 3,
     }

@@ -6,4 +6,3 @@ pub mod Connections
 pub mod Played
 pub mod Operator
 pub mod Schedule
-pub mod Loads

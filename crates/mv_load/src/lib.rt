@@ -1,11 +1,10 @@
-//! Demonstration guests, and a large valid input that is made of a number: `load`.
+//! Demonstration guests, and what a load is made of: a large valid input, by a number.
 #![tactic(auto)]
 
 mod figures;
 mod files;
 mod guests;
 mod player;
-mod rehearsal;
 mod script;
 #[cfg(test)]
 mod tests;
@@ -14,5 +13,4 @@ pub use figures::{Figures, figures_of};
 pub use files::{guest_file, load_files};
 pub use guests::{Demo, guest_text};
 pub use player::{Plan, Player};
-pub use rehearsal::{Loaded, audit_load, load};
 pub use script::{MOST_CONNECTIONS, load_beats, load_lines, load_script};

@@ -1,11 +1,8 @@
-//! The demonstration guests, and loads of one connection.
+//! The demonstration guests, and the input of a load of one connection.
 
 use super::*;
-use mv_calls::Or;
-use mv_orders::Stage;
 use mv_text::assemble;
 use mv_validator::validate;
-use std::alloc::Global;
 use std::test::Fail;
 
 #[test]
@@ -15,38 +12,6 @@ fn each_text_is_a_valid_module(rt: HostRuntime) -> Result<(), Fail> {
         let module = assemble(alloc, guest_text(which))?;
         assert!(rt; validate(alloc, module).is_ok());
     }
-    Ok(())
-}
-
-/// The figures of a load of one connection; no calls where its guest doesn't start.
-fn figures_of_one(alloc: Global) -> Result<Figures, Fail> {
-    match load(alloc, 1) {
-        Ok(log) => {
-            let legal = audit_load(alloc, &log)?;
-            let figures = figures_of(log.entries.slice());
-            Ok(Figures {
-                calls: if legal { figures.calls } else { 0 },
-                ..figures
-            })
-        }
-        Err(Or::Fault(_)) => Ok(figures_of([].as_slice())),
-        Err(Or::OutOfMemory) => Err(Fail::from(mv_calls::OutOfMemory)),
-    }
-}
-
-#[test]
-fn a_load_of_one_connection(rt: HostRuntime) -> Result<(), Fail> {
-    let figures = figures_of_one(rt.alloc())?;
-    assert_eq!(rt;
-        figures,
-        Figures {
-            calls: 12,
-            bytes: 127,
-            forks: 1,
-            promotes: 1,
-            stage: Stage::NewAlone,
-        }
-    );
     Ok(())
 }
 

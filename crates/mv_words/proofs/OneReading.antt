@@ -1,12 +1,12 @@
 -- Words ask for one thing.
 use Rattle.std.proofs.Common.{◌≡◌, [], ◌∷◌, ℕ, List, codes, refl, ap, sym, ◌∙◌, subst, Option, Some, None, inl, inr, ◌⊎◌}
-use Rattle.std.specs.Prelude.{if◌then◌else◌, option_map, unwrap_or}
+use Rattle.std.specs.Prelude.{if◌then◌else◌, unwrap_or}
 use Rattle.std.specs.Str.{bytes_eq}
 use Rattle.mv_scan.specs.Numbers.{decimal}
 use Rattle.mv_words.specs.Words.{Text, Part, parts, free, places}
 use Rattle.mv_words.specs.Commands.{option_names, Gives, IsLog, IsRing, Asks, IsAsked, IsCommandWord, Says, Values, values_in}
 use Rattle.mv_words.specs.declared.command.Command.{Command}
-use Rattle.mv_words.specs.declared.command.Command.TheVariants.{Run, Rehearse, Serve, Check, Rules, Audit, Show, Assemble, Load, Help, Version}
+use Rattle.mv_words.specs.declared.command.Command.TheVariants.{Run, Rehearse, Serve, Check, Rules, Audit, Show, Assemble, Help, Version}
 
 head_is : (a b : Text) (xs ys : List Text) → a ∷ xs ≡ b ∷ ys → a ≡ b
 head_is a b xs ys e = cc
@@ -69,20 +69,13 @@ assembly_in [] = None
 assembly_in (text ∷ []) = None
 assembly_in (text ∷ to ∷ more) = Some (Assemble text to)
 
-abbrev load_of : ℕ → Command
-load_of connections = Load connections
-
-abbrev load_in : List Text → Option Command
-load_in [] = None
-load_in (text ∷ more) = option_map load_of (decimal text)
-
-abbrev choice : Text → (run rehearsal service check rules audit show assembly load : Option Command) → Option Command
-choice word run rehearsal service check rules audit show assembly load =
+abbrev choice : Text → (run rehearsal service check rules audit show assembly : Option Command) → Option Command
+choice word run rehearsal service check rules audit show assembly =
     if bytes_eq word (codes "run") then run else (if bytes_eq word (codes "rehearse") then rehearsal else (if bytes_eq word (codes "serve") then service else (if bytes_eq word (codes "check") then check
-    else (if bytes_eq word (codes "rules") then rules else (if bytes_eq word (codes "audit") then audit else (if bytes_eq word (codes "show") then show else (if bytes_eq word (codes "assemble") then assembly else load)))))))
+    else (if bytes_eq word (codes "rules") then rules else (if bytes_eq word (codes "audit") then audit else (if bytes_eq word (codes "show") then show else assembly))))))
 
 abbrev asked : Text → ℕ → Option Text → List Text → Option Command
-asked word ring log placed = choice word (run_in placed) (rehearsal_in ring log placed) (service_in ring log placed) (check_in placed) (rules_in placed) (audit_in placed) (show_in placed) (assembly_in placed) (load_in placed)
+asked word ring log placed = choice word (run_in placed) (rehearsal_in ring log placed) (service_in ring log placed) (check_in placed) (rules_in placed) (audit_in placed) (show_in placed) (assembly_in placed)
 
 abbrev command_in : Text → Values → List Text → Option Command
 command_in word values placed = asked word (ring_in values.rings) (log_in values.logs) placed
@@ -101,7 +94,6 @@ computed word values placed (Rules forward) asks = asked_by word _ _ placed _ _ 
 computed word values placed (Audit log old updates) asks = asked_by word _ _ placed _ _ _ _ _ asks.0 refl refl asks.2 refl
 computed word values placed (Show log) asks = asked_by word _ _ placed _ _ _ _ _ asks.0 refl refl asks.2 refl
 computed word values placed (Assemble text to) asks = asked_by word _ _ placed _ _ _ _ _ asks.0 refl refl asks.2 refl
-computed word values placed (Load connections) asks = asked_by word _ _ placed _ _ _ _ _ asks.0 refl refl asks.2.1 (ap (option_map load_of) asks.2.2.is)
 computed word values placed Help asks = absurd asks
 computed word values placed Version asks = absurd asks
 
@@ -149,8 +141,7 @@ command_word word values placed (Check path) asks = inr (inr (inr (inl asks.0)))
 command_word word values placed (Rules forward) asks = inr (inr (inr (inr (inl asks.0))))
 command_word word values placed (Audit log old updates) asks = inr (inr (inr (inr (inr (inl asks.0)))))
 command_word word values placed (Show log) asks = inr (inr (inr (inr (inr (inr (inl asks.0))))))
-command_word word values placed (Assemble text to) asks = inr (inr (inr (inr (inr (inr (inr (inl asks.0)))))))
-command_word word values placed (Load connections) asks = inr (inr (inr (inr (inr (inr (inr (inr asks.0)))))))
+command_word word values placed (Assemble text to) asks = inr (inr (inr (inr (inr (inr (inr asks.0))))))
 command_word word values placed Help asks = absurd asks
 command_word word values placed Version asks = absurd asks
 
@@ -162,8 +153,7 @@ help_no_word word e (inr (inr (inr (inl is)))) = let bad : codes "--help" ≡ co
 help_no_word word e (inr (inr (inr (inr (inl is))))) = let bad : codes "--help" ≡ codes "rules" = sym e ∙ is in absurd cc
 help_no_word word e (inr (inr (inr (inr (inr (inl is)))))) = let bad : codes "--help" ≡ codes "audit" = sym e ∙ is in absurd cc
 help_no_word word e (inr (inr (inr (inr (inr (inr (inl is))))))) = let bad : codes "--help" ≡ codes "show" = sym e ∙ is in absurd cc
-help_no_word word e (inr (inr (inr (inr (inr (inr (inr (inl is)))))))) = let bad : codes "--help" ≡ codes "assemble" = sym e ∙ is in absurd cc
-help_no_word word e (inr (inr (inr (inr (inr (inr (inr (inr is)))))))) = let bad : codes "--help" ≡ codes "load" = sym e ∙ is in absurd cc
+help_no_word word e (inr (inr (inr (inr (inr (inr (inr is))))))) = let bad : codes "--help" ≡ codes "assemble" = sym e ∙ is in absurd cc
 
 version_no_word : (word : Text) → word ≡ codes "--version" → IsCommandWord word → ⊥
 version_no_word word e (inl is) = let bad : codes "--version" ≡ codes "run" = sym e ∙ is in absurd cc
@@ -173,8 +163,7 @@ version_no_word word e (inr (inr (inr (inl is)))) = let bad : codes "--version" 
 version_no_word word e (inr (inr (inr (inr (inl is))))) = let bad : codes "--version" ≡ codes "rules" = sym e ∙ is in absurd cc
 version_no_word word e (inr (inr (inr (inr (inr (inl is)))))) = let bad : codes "--version" ≡ codes "audit" = sym e ∙ is in absurd cc
 version_no_word word e (inr (inr (inr (inr (inr (inr (inl is))))))) = let bad : codes "--version" ≡ codes "show" = sym e ∙ is in absurd cc
-version_no_word word e (inr (inr (inr (inr (inr (inr (inr (inl is)))))))) = let bad : codes "--version" ≡ codes "assemble" = sym e ∙ is in absurd cc
-version_no_word word e (inr (inr (inr (inr (inr (inr (inr (inr is)))))))) = let bad : codes "--version" ≡ codes "load" = sym e ∙ is in absurd cc
+version_no_word word e (inr (inr (inr (inr (inr (inr (inr is))))))) = let bad : codes "--version" ≡ codes "assemble" = sym e ∙ is in absurd cc
 
 help_asks_nothing : (words : List Text) (c : Command) → Says words Help → IsAsked words c → ⊥
 help_asks_nothing words c (inl is) asked = help_no_word asked.word (head_is _ _ _ _ (sym asked.words_are ∙ is)) (command_word _ _ _ c asked.asks)
@@ -202,7 +191,6 @@ three words (Rules forward) says = inl says
 three words (Audit log old updates) says = inl says
 three words (Show log) says = inl says
 three words (Assemble text to) says = inl says
-three words (Load connections) says = inl says
 three words Help says = inr (inl (refl, says))
 three words Version says = inr (inr (refl, says))
 

@@ -109,13 +109,6 @@ fn words_in_the_grammar(rt: HostRuntime) -> Result<(), Fail> {
             Ok(Command::Assemble { .. })
         )
     );
-    let words = texts(alloc, &["load", "00700"])?;
-    assert!(rt;
-        matches!(
-            read_words(alloc, words.as_slice()),
-            Ok(Command::Load { connections: 700 })
-        )
-    );
     let words = texts(alloc, &["check", "--help"])?;
     assert!(rt; matches!(read_words(alloc, words.as_slice()), Ok(Command::Help)));
     Ok(())
@@ -123,7 +116,7 @@ fn words_in_the_grammar(rt: HostRuntime) -> Result<(), Fail> {
 
 #[test]
 fn words_outside_the_grammar(rt: HostRuntime) -> Result<(), Fail> {
-    let rows: [&[&str]; 21] = [
+    let rows: [&[&str]; 18] = [
         &[],
         &["jump"],
         &["run"],
@@ -142,9 +135,6 @@ fn words_outside_the_grammar(rt: HostRuntime) -> Result<(), Fail> {
         &["audit", "log", "old", "new", "none"],
         &["show", "log", "--console=b:2"],
         &["assemble", "text"],
-        &["load"],
-        &["load", "0"],
-        &["load", "10001"],
     ];
     for words in rows {
         assert!(rt; are_refused(rt.alloc(), words)?);

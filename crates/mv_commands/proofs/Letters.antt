@@ -3,7 +3,7 @@ use Rattle.std.proofs.Common.{◌≡◌, ◌<◌, ◌≤◌, ◌+◌, [], ◌∷
 use Rattle.std.specs.Prelude.{is_some, option_to_list}
 use Rattle.std.proofs.lemmas.List.{drop_more, append-nil, drop_all}
 use Rattle.mv_rehearse.specs.declared.beats.Beat.{Beat}
-use Rattle.mv_schedule.specs.Schedules.{beat_of, beats_in, first_other, is_blank, with_beat}
+use Rattle.mv_commands.specs.Schedules.{beat_of, beats_in, first_other, is_blank, with_beat}
 
 abbrev pub passes : ℕ → Bool
 passes byte = is_some (beat_of byte) || is_blank byte

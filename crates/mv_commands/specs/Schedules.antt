@@ -2,8 +2,8 @@
 use Rattle.std.specs.Prelude.{ℕ, ◌+◌, ◌^◌, ◌==◌, ◌||◌, Bool, nat_lt, if◌then◌else◌, List, [], ◌∷◌, length, Option, Some, None, is_some, Result, Ok, Err}
 use Rattle.mv_rehearse.specs.declared.beats.Beat.{Beat}
 use Rattle.mv_rehearse.specs.declared.beats.Beat.TheVariants.{Lead, Carry, Follow, Judge}
-use Rattle.mv_schedule.specs.declared.schedule.ScheduleFault.{ScheduleFault}
-use Rattle.mv_schedule.specs.declared.schedule.ScheduleFault.TheVariants.{Letter, Limit}
+use Rattle.mv_commands.specs.declared.ending.ScheduleFault.{ScheduleFault}
+use Rattle.mv_commands.specs.declared.ending.ScheduleFault.TheVariants.{Letter, Limit}
 
 -- L, C, F, J
 abbrev pub beat_of : ℕ → Option Beat
