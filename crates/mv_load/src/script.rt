@@ -107,12 +107,7 @@ pub fn load_lines(alloc: Global) -> Result<MemConsole, OutOfMemory>
     add_line(alloc, &mut lines, 0, b"update new fwd rev")?;
     add_line(alloc, &mut lines, 5, b"promote")?;
     add_line(alloc, &mut lines, 5, b"finish")?;
-    Ok(MemConsole::new(
-        alloc,
-        lines,
-        Vec::new(alloc),
-        Vec::new(alloc),
-    ))
+    Ok(MemConsole::new(alloc, lines, Vec::new(alloc), Vec::new(alloc)))
 }
 
 /// The letters of the schedule of a load of `n` connections.
