@@ -5,10 +5,10 @@ use mv_calls::{Bytes, Call, Happenings, OutOfMemory, Reply, Room, Sub, Subs};
 use mv_outside::{Console, Kernel, Line};
 use std::alloc::Global;
 use std::io::{self, Read, Write};
-use std::net::{Net, OpenListener, OpenStream, TcpListener, TcpStream};
+use std::net::{Net, OpenListener, TcpListener, TcpStream};
 use std::test::Fail;
 use std::thread;
-use std::time::{Clock, Duration, Instant};
+use std::time::Duration;
 
 /// How often a look is made at what takes a moment to arrive.
 const LOOKS: u32 = 1_000;
@@ -101,40 +101,6 @@ fn polls<K: Kernel>(
     })
 }
 
-/// A connection at this address whose other end was closed while bytes of the kernel's waited there unread, which resets it. The
-/// kernel's end has the given descriptor.
-fn reset<R: Net<Stream = TcpStream>, K: Kernel>(
-    rt: &R,
-    alloc: Global,
-    kernel: &mut K,
-    address: &str,
-    fd: u32,
-) -> Result<bool, Fail> {
-    let client = TcpStream::connect(rt, address)?;
-    let came = polls(alloc, kernel, Sub::Read { fd: 3 }, Some((0, 1)))?;
-    let new = answer(alloc, kernel, Call::Accept { fd: 3, flags: 0 })?;
-    let is_new = matches!(new, Some(Reply::Fd(found)) if found == fd);
-    let wrote = writes(alloc, kernel, fd, b"unread")?;
-    let waits = client.peek(&mut [0])? == 1;
-    Ok(came && is_new && wrote && waits)
-}
-
-/// The errno of a read, at most a second or so after it would have had to wait.
-fn errno_of_read<R: Clock, K: Kernel>(
-    rt: &R,
-    alloc: Global,
-    kernel: &mut K,
-    fd: u32,
-) -> Result<Option<u16>, OutOfMemory> {
-    for _ in 0..LOOKS {
-        match errno_of(answer(alloc, kernel, Call::Read { fd, cap: 8 })?) {
-            Some(6) => thread::sleep(rt, Duration::from_millis(1)),
-            found => return Ok(found),
-        }
-    }
-    Ok(Some(6))
-}
-
 #[test]
 fn a_client_is_answered_by_the_kernel(rt: HostRuntime) -> Result<(), Fail> {
     let alloc = rt.alloc();
@@ -159,150 +125,6 @@ fn a_client_is_answered_by_the_kernel(rt: HostRuntime) -> Result<(), Fail> {
     let closed = answer(alloc, &mut kernel, Call::Close { fd: 4 })?;
     assert!(rt; matches!(closed, Some(Reply::Done)));
     assert!(rt; polls(alloc, &mut kernel, Sub::Write { fd: 4 }, Some((8, 0)))?);
-    Ok(())
-}
-
-#[test]
-fn an_error_of_a_connection_is_errno_29(rt: HostRuntime) -> Result<(), Fail> {
-    let alloc = rt.alloc();
-    let address = free_address(&rt, alloc)?;
-    let place = Bytes::from_slice(alloc, address.as_bytes())?;
-    let mut kernel = NetKernel::new(alloc, &rt, place, rt.stdin(), rt.stdout(), rt.stderr());
-    let none = answer(alloc, &mut kernel, Call::Accept { fd: 3, flags: 0 })?;
-    assert_eq!(rt; errno_of(none), Some(6));
-    assert!(rt; reset(&rt, alloc, &mut kernel, address.as_str(), 4)?);
-    assert_eq!(rt; errno_of_read(&rt, alloc, &mut kernel, 4)?, Some(29));
-    // The poll tells it too, and the write behind it.
-    assert!(rt; reset(&rt, alloc, &mut kernel, address.as_str(), 5)?);
-    assert!(rt; polls(alloc, &mut kernel, Sub::Read { fd: 5 }, Some((29, 0)))?);
-    let bytes = Bytes::from_slice(alloc, b"OK")?;
-    let lost = answer(alloc, &mut kernel, Call::Write { fd: 5, bytes })?;
-    assert_eq!(rt; errno_of(lost), Some(29));
-    Ok(())
-}
-
-#[test]
-fn a_write_that_would_wait_is_errno_6(rt: HostRuntime) -> Result<(), Fail> {
-    let alloc = rt.alloc();
-    let address = free_address(&rt, alloc)?;
-    let place = Bytes::from_slice(alloc, address.as_bytes())?;
-    let mut kernel = NetKernel::new(alloc, &rt, place, rt.stdin(), rt.stdout(), rt.stderr());
-    let none = answer(alloc, &mut kernel, Call::Accept { fd: 3, flags: 0 })?;
-    assert_eq!(rt; errno_of(none), Some(6));
-    let client = TcpStream::connect(&rt, address.as_str())?;
-    assert!(rt; polls(alloc, &mut kernel, Sub::Read { fd: 3 }, Some((0, 1)))?);
-    let new = answer(alloc, &mut kernel, Call::Accept { fd: 3, flags: 0 })?;
-    assert!(rt; matches!(new, Some(Reply::Fd(4))));
-    // The client reads nothing, so in the end no more is taken.
-    let mut zeros = Vec::new(alloc);
-    zeros.resize(65_536, 0)?;
-    let mut full = None;
-    for _ in 0..LOOKS {
-        let bytes = Bytes::from_slice(alloc, zeros.as_slice())?;
-        full = errno_of(answer(alloc, &mut kernel, Call::Write { fd: 4, bytes })?);
-        if full.is_some() {
-            break;
-        }
-    }
-    assert_eq!(rt; full, Some(6));
-    drop(client);
-    Ok(())
-}
-
-#[test]
-fn the_listener_is_bound_at_the_first_call_that_needs_it(rt: HostRuntime) -> Result<(), Fail> {
-    let alloc = rt.alloc();
-    let address = free_address(&rt, alloc)?;
-    let place = Bytes::from_slice(alloc, address.as_bytes())?;
-    let mut kernel = NetKernel::new(alloc, &rt, place, rt.stdin(), rt.stdout(), rt.stderr());
-    assert!(rt; answer(alloc, &mut kernel, Call::Yield)?.is_some());
-    // Nobody listens yet, so another may, and then the kernel can't.
-    assert!(rt; TcpStream::connect(&rt, address.as_str()).is_err());
-    let other = TcpListener::bind(&rt, address.as_str())?;
-    assert!(rt; answer(alloc, &mut kernel, Call::Accept { fd: 3, flags: 0 })?.is_none());
-    assert!(rt; answer(alloc, &mut kernel, Call::FdStat { fd: 3 })?.is_none());
-    drop(other);
-    let none = answer(alloc, &mut kernel, Call::Accept { fd: 3, flags: 0 })?;
-    assert_eq!(rt; errno_of(none), Some(6));
-    assert!(rt; TcpStream::connect(&rt, address.as_str()).is_ok());
-    Ok(())
-}
-
-#[test]
-fn a_poll_ends_after_a_hundred_looks(rt: HostRuntime) -> Result<(), Fail> {
-    let alloc = rt.alloc();
-    let address = free_address(&rt, alloc)?;
-    let place = Bytes::from_slice(alloc, address.as_bytes())?;
-    let mut kernel = NetKernel::new(alloc, &rt, place, rt.stdin(), rt.stdout(), rt.stderr());
-    let began = Instant::now(&rt)?;
-    assert!(rt; polls(alloc, &mut kernel, Sub::Read { fd: 3 }, None)?);
-    // A hundred pauses of about a millisecond.
-    let took = began.elapsed(&rt)?.as_millis();
-    assert!(rt; took >= 90 && took < 30_000);
-    Ok(())
-}
-
-/// A stream whose calls all fail so.
-#[derive(Drop)]
-struct Fails {
-    kind: io::ErrorKind,
-}
-
-impl Read for Fails {
-    fn read(&mut self, _into: &mut [u8]) -> io::Result<usize> {
-        Err(io::Error::from(self.kind))
-    }
-}
-
-impl Write for Fails {
-    fn write(&mut self, _bytes: &[u8]) -> io::Result<usize> {
-        Err(io::Error::from(self.kind))
-    }
-
-    fn flush(&mut self) -> io::Result<()> {
-        Err(io::Error::from(self.kind))
-    }
-}
-
-fn write_to(alloc: Global, fd: u32) -> Result<Call, OutOfMemory> {
-    Ok(Call::Write {
-        fd,
-        bytes: Bytes::from_slice(alloc, b"OK")?,
-    })
-}
-
-#[test]
-fn errors_of_streams_and_descriptors_are_told(rt: HostRuntime) -> Result<(), Fail> {
-    let alloc = rt.alloc();
-    let mut kernel = NetKernel::new(
-        alloc,
-        &rt,
-        Bytes::from_slice(alloc, b"no address")?,
-        Fails {
-            kind: io::ErrorKind::BrokenPipe,
-        },
-        Fails {
-            kind: io::ErrorKind::WouldBlock,
-        },
-        Fails {
-            kind: io::ErrorKind::BrokenPipe,
-        },
-    );
-    let rows = [
-        (Call::Read { fd: 0, cap: 8 }, 29),
-        (write_to(alloc, 1)?, 6),
-        (write_to(alloc, 2)?, 29),
-        // These descriptors aren't open, or have no such call.
-        (Call::Read { fd: 4, cap: 8 }, 8),
-        (write_to(alloc, 3)?, 8),
-        (Call::Close { fd: 4 }, 8),
-        (Call::Shutdown { fd: 4, how: 3 }, 8),
-        (Call::FdStat { fd: 4 }, 8),
-        (Call::Accept { fd: 4, flags: 0 }, 8),
-    ];
-    for (call, errno) in rows {
-        assert_eq!(rt; errno_of(answer(alloc, &mut kernel, call)?), Some(errno));
-    }
     Ok(())
 }
 
@@ -333,7 +155,7 @@ fn the_kernel_reads_time_randomness_and_input(rt: HostRuntime) -> Result<(), Fai
 }
 
 /// What the console has within a second or so; Idle where nothing comes.
-fn heard<C: Console, R: Clock>(rt: &R, alloc: Global, console: &mut C) -> Line {
+fn heard<C: Console, R: std::rt::Clock>(rt: &R, alloc: Global, console: &mut C) -> Line {
     for _ in 0..LOOKS {
         match console.next(alloc) {
             Line::Idle => thread::sleep(rt, Duration::from_millis(1)),
@@ -400,48 +222,5 @@ fn a_console_without_an_address_fails_once(rt: HostRuntime) -> Result<(), Fail> 
     let mut console = NetConsole::new(alloc, &rt, Bytes::from_slice(alloc, b"nowhere")?);
     assert!(rt; matches!(console.next(alloc), Line::Failed));
     assert!(rt; matches!(console.next(alloc), Line::Closed));
-    Ok(())
-}
-
-#[test]
-fn a_console_at_a_taken_address_is_closed_for_good(rt: HostRuntime) -> Result<(), Fail> {
-    let alloc = rt.alloc();
-    let other = TcpListener::bind(&rt, "127.0.0.1:0")?;
-    let address = format!(in alloc; "{}", other.local_addr()?)?;
-    let place = Bytes::from_slice(alloc, address.as_bytes())?;
-    let mut console = NetConsole::new(alloc, &rt, place);
-    assert!(rt; matches!(console.next(alloc), Line::Failed));
-    drop(other);
-    assert!(rt; matches!(console.next(alloc), Line::Closed));
-    Ok(())
-}
-
-#[test]
-fn an_operator_who_is_lost_is_given_up(rt: HostRuntime) -> Result<(), Fail> {
-    let alloc = rt.alloc();
-    let address = free_address(&rt, alloc)?;
-    let place = Bytes::from_slice(alloc, address.as_bytes())?;
-    let mut console = NetConsole::new(alloc, &rt, place);
-    assert!(rt; matches!(console.next(alloc), Line::Idle));
-    let mut lost = TcpStream::connect(&rt, address.as_str())?;
-    lost.write_all(b"status\n")?;
-    let line = line_of(heard(&rt, alloc, &mut console)).ok_or("a line")?;
-    assert_eq!(rt; line.slice(), b"status".as_slice());
-    console.prepare(alloc, 3)?;
-    assert!(rt; console.say(b"ok\n").is_ok());
-    // He goes with the reply unread, which resets the connection.
-    assert_eq!(rt; lost.peek(&mut [0])?, 1);
-    drop(lost);
-    let mut next = TcpStream::connect(&rt, address.as_str())?;
-    next.write_all(b"halt\n")?;
-    let line = line_of(heard(&rt, alloc, &mut console)).ok_or("a line")?;
-    assert_eq!(rt; line.slice(), b"halt".as_slice());
-    // What is said once he has gone too is said to nobody, and is no failure.
-    drop(next);
-    console.prepare(alloc, 3)?;
-    assert!(rt; console.say(b"ok\n").is_ok());
-    assert!(rt; matches!(console.next(alloc), Line::Idle));
-    console.prepare(alloc, 3)?;
-    assert!(rt; console.say(b"ok\n").is_ok());
     Ok(())
 }
