@@ -575,8 +575,14 @@ const READER: &[u8; 225] = b"\0asm\x01\0\0\0\
 
 #[test]
 fn a_read_without_a_place_for_its_count_takes_nothing(rt: HostRuntime) -> Result<(), Fail> {
-    let mut asked = words(&["run", "reader"]);
-    asked.pieces = &[b"0123456789"];
+    let asked = Asked {
+        words: &["run", "reader"],
+        orders: &[],
+        pieces: &[b"0123456789".as_slice()],
+        perform: None,
+        read: None,
+        print: None,
+    };
     let row = row_of(&rt, rt.alloc(), asked, &[("reader", READER)])?;
     // Errno 21, and ten bytes; the calls are the accept and one read.
     assert!(rt; row.line.as_slice() == b"ended 31\n".as_slice());
