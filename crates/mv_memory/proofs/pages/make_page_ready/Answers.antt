@@ -1,7 +1,7 @@
 use Rattle.std.proofs.Common.{arith, sym, ◌∙◌}
 use Rattle.std.proofs.lemmas.Result.{on_ok_weaker}
 use Rattle.mv_memory.specs.Pages.{is_owned, is_ready}
-use Rattle.mv_memory.proofs.PagesLemmas.{bytes_of-set_same, keeps-set, marked-set, mark-at, marks-set_same}
+use Rattle.mv_memory.proofs.PagesLemmas.{bytes_of-set_same, keeps-set, marked-set, mark-at, marks-set_same, only-set}
 use Rattle.mv_memory.proofs.pages.make_page_ready.Goals as goal
 
 pub returns-clause-bytes : goal.returns-clause-bytes
@@ -31,3 +31,6 @@ returns-clause-owned c =
 pub returns-clause-succeeds : goal.returns-clause-succeeds
 returns-clause-succeeds c = λ ready.
     c.make_ready.ensures.succeeds (sym (mark-at is_ready c.args.pages.now.items c.args.page c.index_mut.result.now (omega arith) c.index_mut.ensures.value) ∙ ready)
+
+pub returns-clause-only : goal.returns-clause-only
+returns-clause-only c = only-set c.args.pages.now.items c.args.page c.make_ready.new.self

@@ -1,6 +1,6 @@
 use Rattle.std.proofs.Common.{◌≡◌, All, vec_len, true, false}
 use Rattle.mv_memory.specs.Pages.{bytes_of, flags_of, ready_of, IsWhole}
-use Rattle.mv_memory.specs.Memory.{AreOwned, KeepsPages}
+use Rattle.mv_memory.specs.Memory.{AreOwned, KeepsPages, OwnsOnly}
 use Rattle.mv_memory.proofs.pages.make_pages_ready.Given as goal
 
 abbrev pub invariant-loop-page : goal.invariant-loop-page
@@ -11,6 +11,7 @@ invariant-loop-page l = record {
   kept : KeepsPages (flags_of l.initial.pages.items) (flags_of l.pages.items);
   kept_ready : KeepsPages (ready_of l.initial.pages.items) (ready_of l.pages.items);
   same : l.own ≡ false → flags_of l.pages.items ≡ flags_of l.initial.pages.items;
+  only : OwnsOnly (flags_of l.initial.pages.items) (flags_of l.pages.items) l.first l.page;
   ready : AreOwned (ready_of l.pages.items) l.first l.page;
   owned : l.own ≡ true → AreOwned (flags_of l.pages.items) l.first l.page;
 }
