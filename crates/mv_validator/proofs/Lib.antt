@@ -8,3 +8,4 @@ pub mod Labels
 pub mod Counts
 pub mod Scans
 pub mod Laws
+pub mod Names

@@ -1,6 +1,6 @@
 // What is checked of a module without the bodies of its functions.
 
-ghost use Rattle.std.specs.Prelude.{◌≡◌, ℕ, ◌<◌, ◌≤◌, ◌^◌, List, Option, Some, None, true, length, take, slice_get, nat_lt, if◌then◌else◌, is_some};
+ghost use Rattle.std.specs.Prelude.{◌≡◌, ℕ, ◌<◌, ◌^◌, List, Option, Some, None, true, not, length, take, slice_get, nat_lt, if◌then◌else◌, is_some, IfOk};
 ghost use Rattle.mv_syntax.specs.Sections.{Parts};
 ghost use Rattle.mv_validator.specs.Counted.{AreCounted};
 ghost use Rattle.mv_validator.specs.Faults.{any_lacking, lacking};
@@ -11,8 +11,11 @@ ghost use Rattle.mv_validator.specs.Checks.{GlobalInit, ExportedAs, StartOf, Ele
 use crate::kind::unless;
 use crate::shape::type_index;
 use mv_syntax::{
-    Element, Export, Global, Instr, Limits, Module, Segment, ValType, ValidFault, ValidKind,
+    Element, Export, Global as GlobalItem, Instr, Limits, Module, Segment, ValType, ValidFault,
+    ValidKind,
 };
+use std::alloc::{AllocError, Global};
+use std::collections::BTreeSet;
 
 // A number of 32 bits.
 pub fn number(n: usize) -> u32
@@ -54,18 +57,6 @@ fn is_constant(vtype: ValType, code: &[Instr]) -> bool
         [Instr::Const { vtype: found, .. }, Instr::End] => *found == vtype,
         _ => false,
     }
-}
-
-// Whether one of the exports has the name.
-fn has_name(name: &[u8], exports: &[Export]) -> bool
-    ensures { result ≡ is_named name.now exports.now }
-{
-    for export in exports {
-        if export.name.slice() == name {
-            return true;
-        }
-    }
-    false
 }
 
 // How many functions there are, the imported ones among them.
@@ -120,7 +111,7 @@ fn type_fault(module: &Module, x: u32) -> Option<ValidKind>
 }
 
 // What is wrong with a global.
-fn global_fault(global: &Global) -> Option<ValidKind>
+fn global_fault(global: &GlobalItem) -> Option<ValidKind>
     ensures { (p : Parts) → result ≡ fault_of p (GlobalInit global.now) }
 {
     unless(
@@ -129,13 +120,12 @@ fn global_fault(global: &Global) -> Option<ValidKind>
     )
 }
 
-// What is wrong with an export that has so many before it.
-fn export_fault(module: &Module, before: usize, export: &Export) -> Option<ValidKind>
-    requires counted { AreCounted «module».now }
-    requires within { before ≤ length «module».now.exports }
-    ensures { result ≡ fault_of «module».now (ExportedAs before export.now) }
+// What is wrong with an export whose name is new, or is the name of one before it.
+fn export_fault(module: &Module, is_new: bool, export: &Export) -> Option<ValidKind>
+    requires { AreCounted «module».now }
+    ensures { (n : ℕ) → is_new ≡ not (is_named export.now.name (take n «module».now.exports)) → result ≡ fault_of «module».now (ExportedAs n export.now) }
 {
-    if has_name(export.name.slice(), &module.exports.slice()[..before]) {
+    if !is_new {
         return Some(ValidKind::ExportName);
     }
     let there = (export.index as usize) < exported_count(module, export.kind);
@@ -252,17 +242,19 @@ fn check_globals(module: &Module) -> Option<ValidFault>
     None
 }
 
-// The first faulty export.
-fn check_exports(module: &Module) -> Option<ValidFault>
+// The first faulty export. The names so far are kept in order, so that many exports take little time each.
+fn check_exports(alloc: Global, module: &Module) -> Result<Option<ValidFault>, AllocError>
     requires { AreCounted «module».now }
-    ensures { Tells «module».now (export_checks «module».now) result }
+    ensures { IfOk result (Tells «module».now (export_checks «module».now)) }
 {
+    let mut names = BTreeSet::new(alloc);
     for (item, export) in module.exports.slice().iter().enumerate() {
-        if let Some(kind) = export_fault(module, item, export) {
-            return Some(fault(7, item, kind));
+        let is_new = names.insert(export.name.slice())?;
+        if let Some(kind) = export_fault(module, is_new, export) {
+            return Ok(Some(fault(7, item, kind)));
         }
     }
-    None
+    Ok(None)
 }
 
 // Whether the start function is faulty.
@@ -305,27 +297,27 @@ pub fn check_segments(module: &Module) -> Option<ValidFault>
 }
 
 // The first fault of what stands in front of the bodies.
-pub fn check_declarations(module: &Module) -> Option<ValidFault>
+pub fn check_declarations(alloc: Global, module: &Module) -> Result<Option<ValidFault>, AllocError>
     requires { AreCounted «module».now }
-    ensures { Tells «module».now (declaration_checks «module».now) result }
+    ensures { IfOk result (Tells «module».now (declaration_checks «module».now)) }
 {
     if let Some(fault) = check_imports(module) {
-        return Some(fault);
+        return Ok(Some(fault));
     }
     if let Some(fault) = check_functions(module) {
-        return Some(fault);
+        return Ok(Some(fault));
     }
     if let Some(fault) = check_sizes(module) {
-        return Some(fault);
+        return Ok(Some(fault));
     }
     if let Some(fault) = check_globals(module) {
-        return Some(fault);
+        return Ok(Some(fault));
     }
-    if let Some(fault) = check_exports(module) {
-        return Some(fault);
+    if let Some(fault) = check_exports(alloc, module)? {
+        return Ok(Some(fault));
     }
     if let Some(fault) = check_start(module) {
-        return Some(fault);
+        return Ok(Some(fault));
     }
-    check_elements(module)
+    Ok(check_elements(module))
 }

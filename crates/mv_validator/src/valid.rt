@@ -98,7 +98,7 @@ fn first_fault(alloc: Global, module: &Module) -> Result<Option<ValidFault>, All
 {
     counted(module);
     module.keeps();
-    if let Some(fault) = check_declarations(module) {
+    if let Some(fault) = check_declarations(alloc, module)? {
         return Ok(Some(fault));
     }
     if let Some(fault) = check_bodies(alloc, module)? {
