@@ -9,15 +9,16 @@ use Rattle.mv_execution.specs.Instance.{program_of}
 use Rattle.mv_execution.specs.Run.{answered, with_new_gap}
 use Rattle.mv_machine.specs.Executions.{Execution}
 use Rattle.mv_wasi.specs.Answers.{errno_of}
-use Rattle.mv_wasi.specs.Machines.{clean, with_bytes, left_at}
+use Rattle.mv_wasi.specs.Machines.{clean, made_at, with_bytes, left_at}
 use Rattle.mv_version.specs.declared.event.Event.{Event}
 use Rattle.mv_version.specs.declared.event.Event.TheVariants.{Calls, Point, Ends, Traps}
 use Rattle.mv_guest.specs.Events.{next_event}
 use Rattle.mv_guest.specs.Standing.{Standing, standing, stands_from, passed, replied, unready, after}
 use Rattle.mv_guest.specs.Advances.{SameNext, IsMetAgain}
 use Rattle.mv_wasi.specs.declared.made.Made.TheVariants.{Outside}
-use Rattle.mv_wasi.specs.Known.{AreKnown, IsWaitingFor}
+use Rattle.mv_wasi.specs.Known.{AreKnown, IsWaitingFor, IsMadeThere}
 use Rattle.mv_wasi.specs.Readies.{IsReadyFor, function_called}
+use Rattle.mv_wasi.proofs.Bounds.{made-kept}
 use Rattle.mv_wasi.proofs.Callers.{calls-from}
 use Rattle.mv_guest.specs.Running.{passed_times, stands_trapped, trap_of, ArePoints, IsPrepared}
 use Rattle.mv_guest.proofs.Reaches.{made_for, at-call}
@@ -83,6 +84,19 @@ stands-waiting m args c known e k =
     let at = at-call m.parts args m.config (Outside c) (ap made_for e) in
     let w : m.config.waiting ≡ Some at.import = ap (λ (z : Config). z.waiting) k ∙ ap (λ (z : Config). z.waiting) at.there ∙ at.waits in
     calls-from m args at.import at.before c known w at.becomes
+
+-- and the call is made there
+pub stands-made : (m : Execution) (args : List (List ℕ)) (c : Call) → (stands_from m.parts args m.config).event ≡ Calls c → clean m.config ≡ (stands_from m.parts args m.config).config → IsMadeThere m c
+stands-made m args c e k =
+    let at = at-call m.parts args m.config (Outside c) (ap made_for e) in
+    let left : (made_at m.parts args at.import at.before).1 ≡ at.before.store.memory.bytes = made-kept m.parts args at.import at.before c at.becomes in
+    let there : clean m.config ≡ clean at.before = k ∙ ap (λ (z : Config). clean z) at.there ∙ ap (λ z. clean (with_bytes z at.before)) left in
+    record {
+      args = args;
+      import = at.import;
+      waits = ap (λ (z : Config). z.waiting) there ∙ at.waits;
+      becomes = ap (λ z. (made_at m.parts args at.import z).0) there ∙ at.becomes;
+    }
 
 -- all of it once the outputs are owned
 pub prepared-by : (m n : Execution) (args : List (List ℕ)) (t : Option Trap) (pending : ℕ) (c : Call) → t ≡ None → pending ≡ 0 → n.parts ≡ m.parts → clean n.config ≡ clean m.config → AreKnown m.parts → (stands_from m.parts args m.config).event ≡ Calls c → clean m.config ≡ (stands_from m.parts args m.config).config → IsReadyFor n c → IsPrepared n args t pending c

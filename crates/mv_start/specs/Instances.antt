@@ -1,7 +1,6 @@
 -- Instantiation (WebAssembly Core 1.0, 4.5.4), with what this host asks of a guest's imports and of its entry.
-use Rattle.std.specs.Prelude.{◌≡◌, ℕ, suc, ◌+◌, Bool, false, ◌&&◌, ◌==◌, List, [], ◌∷◌, Option, Some, None, Result, Ok, Err, length, nat_le, codes, if◌then◌else◌}
+use Rattle.std.specs.Prelude.{ℕ, suc, ◌+◌, Bool, false, ◌&&◌, ◌==◌, List, [], ◌∷◌, Option, Some, None, Result, Ok, Err, length, nat_le, codes, if◌then◌else◌}
 use Rattle.std.specs.Str.{bytes_eq}
-use Rattle.mv_calls.specs.declared.trap.Trap.{Trap}
 use Rattle.mv_calls.specs.declared.trap.Trap.TheVariants as trap
 use Rattle.mv_syntax.specs.declared.ops.ValType.TheVariants.{I32}
 use Rattle.mv_syntax.specs.declared.types.FuncType.{FuncType}

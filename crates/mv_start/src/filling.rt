@@ -1,9 +1,10 @@
 //! The start function and the segments of an instance.
-ghost use Rattle.std.specs.Prelude.{◌≡◌, ◌+◌, ℕ, IfSome, [], Ok as done_as, Err as faulty_as, ◌<◌, OnOk, length};
+ghost use Rattle.std.specs.Prelude.{◌≡◌, ◌+◌, ◌^◌, [], Ok as done_as, Err as faulty_as, ◌<◌, ◌≤◌, OnOk, length};
 ghost use Rattle.mv_calls.specs.Or.{IfFault};
 ghost use Rattle.mv_execution.specs.Instance.{with_element};
+ghost use Rattle.mv_machine.specs.Calls.{HasFunction};
 ghost use Rattle.mv_start.specs.Instances.{begun, with_segments, with_elements};
-ghost use Rattle.mv_start.specs.Writings.{IsWritten, IsEntry, IsEntered, IsFilled, HasCount};
+ghost use Rattle.mv_start.specs.Writings.{IsWritten, IsEntry, IsEntered, IsFilled, HasCount, HasEntry, AreSegmentsWithin, TakesElements};
 
 use crate::checks::constant;
 use mv_calls::{Or, OutOfMemory, Trap};
@@ -47,10 +48,12 @@ pub fn begin(alloc: Global, machine: &mut Machine) -> Result<(), Or<StartFault>>
     }
 }
 
-/// Writes the data segment with this number.
+/// Writes the data segment with this number. It is in bounds, as all are.
 fn write_segment(alloc: Global, machine: &mut Machine, number: usize) -> Result<(), OutOfMemory>
-    requires { number < length machine.old.parts.segments }
+    requires number { number < length machine.old.parts.segments }
+    requires within { AreSegmentsWithin machine.old.parts.segments (length machine.old.config.store.memory.bytes) }
     ensures ok { OnOk result (IsWritten machine.old number machine.new) }
+    ensures size { length machine.new.config.store.memory.bytes ≡ length machine.old.config.store.memory.bytes }
     ensures parts { machine.new.parts ≡ machine.old.parts }
 {
     let segment = &machine.module().module().segments.slice()[number];
@@ -59,12 +62,14 @@ fn write_segment(alloc: Global, machine: &mut Machine, number: usize) -> Result<
     let memory = machine.memory_mut();
     match memory.fill_from(alloc, offset, bytes.slice()) {
         Ok(()) => Ok(()),
-        Err(_) => Err(OutOfMemory),
+        Err(Or::OutOfMemory) => Err(OutOfMemory),
+        Err(Or::Fault(_)) => unreachable!(),
     }
 }
 
 /// Writes all data segments, which are in bounds.
 pub fn write_segments(alloc: Global, machine: &mut Machine) -> Result<(), OutOfMemory>
+    requires { AreSegmentsWithin machine.old.parts.segments (length machine.old.config.store.memory.bytes) }
     ensures ok { OnOk result (machine.new.config ≡ with_segments machine.old.parts.segments machine.old.config) }
     ensures parts { machine.new.parts ≡ machine.old.parts }
 {
@@ -85,67 +90,59 @@ fn entry_count(machine: &Machine, number: usize) -> usize
 }
 
 /// Where the element with this number begins, and one of its functions.
-fn entry_at(machine: &Machine, number: usize, index: usize) -> Option<(u64, u32)>
-    requires number { number < length machine.now.parts.elements }
-    ensures { IfSome result (λ r. IsEntry machine.now number index r.0 r.1) }
+fn entry_at(machine: &Machine, number: usize, index: usize) -> (u64, u32)
+    requires { HasEntry machine.now number index }
+    ensures { IsEntry machine.now number index result.0 result.1 }
 {
     let element = &machine.module().module().elements.slice()[number];
-    let func = *element.funcs.slice().get(index)?;
-    Some((constant(element.offset.slice()), func))
+    (
+        constant(element.offset.slice()),
+        element.funcs.slice()[index],
+    )
 }
 
-/// Lets an entry of the table hold a function.
-fn put_entry(machine: &mut Machine, offset: u64, index: usize, func: u32) -> Result<(), OutOfMemory>
-    ensures ok { OnOk result (machine.new ≡ record machine.old { config = with_element (offset + index) func machine.old.config }) }
-    ensures parts { machine.new.parts ≡ machine.old.parts }
+/// Lets an entry of the table hold a function. It stands so far behind a place.
+fn put_entry(machine: &mut Machine, place: u64, index: usize, func: u32)
+    requires within { place + index < length machine.old.config.store.table }
+    requires short { length machine.old.config.store.table ≤ 2 ^ 32 }
+    requires there { HasFunction machine.old.parts func }
+    ensures { machine.new ≡ record machine.old { config = with_element (place + index) func machine.old.config } }
 {
-    let size = machine.table_size();
-    if index >= size || offset >= (size - index) as u64 {
-        return Err(OutOfMemory);
-    }
-    if machine.function_type(func).is_none() {
-        return Err(OutOfMemory);
-    }
-    let Ok(at) = u32::try_from(offset + index as u64) else {
-        return Err(OutOfMemory);
-    };
-    machine.set_element(at, func);
-    Ok(())
+    machine.set_element((place + index as u64) as u32, func);
 }
 
 /// Writes one entry of an element.
-fn write_entry(machine: &mut Machine, number: usize, index: usize) -> Result<(), OutOfMemory>
-    requires number { number < length machine.old.parts.elements }
-    ensures ok { OnOk result (IsEntered machine.old number index machine.new) }
+fn write_entry(machine: &mut Machine, number: usize, index: usize)
+    requires takes { TakesElements machine.old }
+    requires entry { HasEntry machine.old number index }
+    ensures entered { IsEntered machine.old number index machine.new }
     ensures parts { machine.new.parts ≡ machine.old.parts }
 {
-    let Some((offset, func)) = entry_at(machine, number, index) else {
-        return Err(OutOfMemory);
-    };
-    put_entry(machine, offset, index, func)
+    let (place, func) = entry_at(machine, number, index);
+    put_entry(machine, place, index, func);
 }
 
 /// Writes the element with this number.
-fn write_element(machine: &mut Machine, number: usize) -> Result<(), OutOfMemory>
+fn write_element(machine: &mut Machine, number: usize)
+    requires takes { TakesElements machine.old }
     requires number { number < length machine.old.parts.elements }
-    ensures ok { OnOk result (IsFilled machine.old number machine.new) }
+    ensures filled { IsFilled machine.old number machine.new }
     ensures parts { machine.new.parts ≡ machine.old.parts }
 {
     let count = entry_count(machine, number);
     for index in 0..count {
-        write_entry(machine, number, index)?;
+        write_entry(machine, number, index);
     }
-    Ok(())
 }
 
-/// Writes all elements, which are in bounds.
-pub fn write_elements(machine: &mut Machine) -> Result<(), OutOfMemory>
-    ensures ok { OnOk result (machine.new.config ≡ with_elements machine.old.parts.elements machine.old.config) }
+/// Writes all elements, which the table takes.
+pub fn write_elements(machine: &mut Machine)
+    requires { TakesElements machine.old }
+    ensures written { machine.new.config ≡ with_elements machine.old.parts.elements machine.old.config }
     ensures parts { machine.new.parts ≡ machine.old.parts }
 {
     let count = machine.module().module().elements.slice().len();
     for number in 0..count {
-        write_element(machine, number)?;
+        write_element(machine, number);
     }
-    Ok(())
 }

@@ -2,6 +2,7 @@
 
 use crate::events::{own_events, put_events};
 use crate::iovecs::{own_read, put_read};
+use crate::ranges::{ranges_lie_within, size_of};
 use mv_calls::Happened;
 use mv_memory::Memory;
 use std::test::Fail;
@@ -13,6 +14,7 @@ const IOVECS: &[u8; 16] = b"\x08\0\0\0\x04\0\0\0\x64\0\0\0\x40\0\0\0";
 fn a_piece_may_lie_over_an_iovec(rt: HostRuntime) -> Result<(), Fail> {
     let mut memory = Memory::new(rt.alloc(), 1, None)?;
     assert_eq!(rt; memory.fill_from(rt.alloc(), 0, IOVECS), Ok(()));
+    assert!(rt; ranges_lie_within(&memory, 0, 2, 200));
     own_read(rt.alloc(), &mut memory, 0, 2, 200)?;
     put_read(rt.alloc(), &mut memory, 0, 2, 200, b"abcdefghij");
     assert_eq!(rt; memory.load(8, 4), Ok(0x6463_6261));
@@ -28,7 +30,8 @@ fn events_may_lie_over_their_subscriptions(rt: HostRuntime) -> Result<(), Fail> 
     for (place, value) in [(0, 7), (16, 1), (48, 8), (56, 1), (64, 9)] {
         assert_eq!(rt; memory.store(rt.alloc(), place, 8, value), Ok(()));
     }
-    own_events(rt.alloc(), &mut memory, 0, 0, 2, 200)?;
+    assert!(rt; size_of(&memory) == 65_536);
+    own_events(rt.alloc(), &mut memory, 0, 2, 200)?;
     let both = [
         Happened {
             sub: 0,

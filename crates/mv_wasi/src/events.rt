@@ -5,10 +5,10 @@ ghost use Rattle.mv_memory.specs.Bytes.{written};
 ghost use Rattle.mv_memory.specs.Memory.{HasBytes};
 ghost use Rattle.mv_wasi.specs.Ranges.{vector_limit, with_number};
 ghost use Rattle.mv_wasi.specs.Polls.{event_bytes, events_bytes};
-ghost use Rattle.mv_wasi.specs.Readies.{HasArray, HasRanges, HaveSubs};
+ghost use Rattle.mv_wasi.specs.Readies.{HasRanges, HaveSubs, LieWithin};
 
 use crate::filling::{own_range, push_all, write_bytes, write_number};
-use crate::ranges::{VECTOR_LIMIT, lies_within, number_at};
+use crate::ranges::{VECTOR_LIMIT, number_at};
 use arrayvec::ArrayVec;
 use mv_calls::{Happened, OutOfMemory};
 use mv_memory::Memory;
@@ -60,23 +60,20 @@ fn bytes_of(memory: &Memory, subs: u32, happened: &[Happened]) -> ArrayVec<u8, M
     bytes
 }
 
-/// Makes ready what the answer to a poll with so many subscriptions writes: the events, and the place of their number. An array
-/// that is out of bounds, or of more than one call may have, is answered as want of memory: `decode` makes no such call.
+/// Makes ready what the answer to a poll with so many subscriptions writes, which is in bounds: the events, and the place of
+/// their number.
 pub fn own_events(
     alloc: Global,
     memory: &mut Memory,
-    subs: u32,
     events: u32,
     count: usize,
     result_at: u32,
 ) -> Result<(), OutOfMemory>
+    requires few { count ≤ vector_limit }
+    requires within { LieWithin memory.old.bytes ((result_at, 4) ∷ (events, 32 * count) ∷ []) }
     ensures same { HasBytes memory.old memory.new memory.old.bytes }
-    ensures array { OnOk result (HasArray memory.new subs 48 count) }
     ensures owned { OnOk result (HasRanges memory.new ((result_at, 4) ∷ (events, 32 * count) ∷ [])) }
 {
-    if count > VECTOR_LIMIT as usize || !lies_within(memory, subs, 48 * count as u64) {
-        return Err(OutOfMemory);
-    }
     own_range(alloc, memory, result_at, 4)?;
     own_range(alloc, memory, events, 32 * count as u32)
 }

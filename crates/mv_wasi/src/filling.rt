@@ -7,23 +7,25 @@ ghost use Rattle.mv_wasi.specs.Ranges.{with_number};
 ghost use Rattle.mv_wasi.specs.Readies.{HasRange};
 
 use arrayvec::ArrayVec;
-use mv_calls::OutOfMemory;
+use mv_calls::{Or, OutOfMemory};
 use mv_memory::Memory;
 use std::alloc::Global;
 
-/// Makes a range ready to be written. A range that is out of bounds is answered as want of memory: `decode` makes no such call.
+/// Makes a range ready to be written, which is in bounds.
 pub fn own_range(
     alloc: Global,
     memory: &mut Memory,
     place: u32,
     len: u32,
 ) -> Result<(), OutOfMemory>
+    requires { place + len ≤ length memory.old.bytes }
     ensures same { HasBytes memory.old memory.new memory.old.bytes }
     ensures owned { OnOk result (HasRange memory.new place len) }
 {
     match memory.own_pages(alloc, u64::from(place), len) {
         Ok(()) => Ok(()),
-        Err(_) => Err(OutOfMemory),
+        Err(Or::OutOfMemory) => Err(OutOfMemory),
+        Err(Or::Fault(_)) => unreachable!(),
     }
 }
 

@@ -2,10 +2,10 @@
 ghost use Rattle.std.specs.Prelude.{◌≡◌, ◌≤◌, ◌+◌, ◌*◌, ◌∷◌, OnOk, length};
 ghost use Rattle.mv_memory.specs.Memory.{HasBytes};
 ghost use Rattle.mv_wasi.specs.Ranges.{pieces as pieces_in, scattered, vector_limit, with_number};
-ghost use Rattle.mv_wasi.specs.Readies.{HasArray, HasRange, HasRanges};
+ghost use Rattle.mv_wasi.specs.Readies.{HasArray, HasRanges, LieWithin};
 
 use crate::filling::{own_range, write_bytes, write_number};
-use crate::ranges::{VECTOR_LIMIT, lies_within, piece_at};
+use crate::ranges::{VECTOR_LIMIT, piece_at};
 use arrayvec::ArrayVec;
 use mv_calls::OutOfMemory;
 use mv_memory::Memory;
@@ -27,8 +27,9 @@ fn pieces_of(memory: &Memory, iovs: u32, count: u32) -> ArrayVec<(u32, u32), MOS
     pieces
 }
 
-/// Makes each piece ready to be written.
+/// Makes each piece ready to be written, which is in bounds.
 fn own_pieces(alloc: Global, memory: &mut Memory, pieces: &[(u32, u32)]) -> Result<(), OutOfMemory>
+    requires { LieWithin memory.old.bytes pieces.now }
     ensures same { HasBytes memory.old memory.new memory.old.bytes }
     ensures owned { OnOk result (HasRanges memory.new pieces.now) }
 {
@@ -38,8 +39,7 @@ fn own_pieces(alloc: Global, memory: &mut Memory, pieces: &[(u32, u32)]) -> Resu
     Ok(())
 }
 
-/// Makes ready what the answer to a read writes: the pieces, and the place of the count. An array that is out of bounds, or of
-/// more than one call may have, is answered as want of memory: `decode` makes no such call.
+/// Makes ready what the answer to a read writes, which is in bounds: the pieces, and the place of the count.
 pub fn own_read(
     alloc: Global,
     memory: &mut Memory,
@@ -47,13 +47,11 @@ pub fn own_read(
     count: u32,
     result_at: u32,
 ) -> Result<(), OutOfMemory>
+    requires array { HasArray memory.old iovs 8 count }
+    requires within { LieWithin memory.old.bytes ((result_at, 4) ∷ pieces_in memory.old.bytes iovs count) }
     ensures same { HasBytes memory.old memory.new memory.old.bytes }
-    ensures array { OnOk result (HasArray memory.new iovs 8 count) }
     ensures owned { OnOk result (HasRanges memory.new ((result_at, 4) ∷ pieces_in memory.new.bytes iovs count)) }
 {
-    if count > VECTOR_LIMIT || !lies_within(memory, iovs, 8 * u64::from(count)) {
-        return Err(OutOfMemory);
-    }
     own_range(alloc, memory, result_at, 4)?;
     let pieces = pieces_of(memory, iovs, count);
     own_pieces(alloc, memory, pieces.as_slice())

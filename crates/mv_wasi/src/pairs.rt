@@ -4,6 +4,7 @@ ghost use Rattle.mv_memory.specs.Bytes.{written};
 ghost use Rattle.mv_memory.specs.Memory.{HasBytes, IsOwnedRange};
 ghost use Rattle.mv_wasi.specs.Machines.{cleaned};
 
+use crate::filling::own_range;
 use crate::ranges::size_of;
 use mv_calls::OutOfMemory;
 use mv_memory::Memory;
@@ -22,10 +23,7 @@ fn own_place(
 {
     // No memory has more than 2^26 bytes, and so these bytes are no more.
     let _ = size_of(memory);
-    match memory.own_pages(alloc, u64::from(place), bytes.len() as u32) {
-        Ok(()) => Ok(()),
-        Err(_) => Err(OutOfMemory),
-    }
+    own_range(alloc, memory, place, bytes.len() as u32)
 }
 
 /// Writes bytes to a place that was made ready, which takes no memory.

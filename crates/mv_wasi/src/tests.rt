@@ -9,12 +9,10 @@ use std::alloc::Global;
 use std::test::Fail;
 
 /// A page that begins with these bytes.
-fn page(alloc: Global, bytes: &[u8]) -> Result<Memory, OutOfMemory> {
+fn page(alloc: Global, bytes: &[u8]) -> Result<Memory, Fail> {
     let mut memory = Memory::new(alloc, 1, None)?;
-    match memory.fill_from(alloc, 0, bytes) {
-        Ok(()) => Ok(memory),
-        Err(_) => Err(OutOfMemory),
-    }
+    memory.fill_from(alloc, 0, bytes)?;
+    Ok(memory)
 }
 
 /// The errno that is answered at once.

@@ -1,6 +1,11 @@
 use Rattle.std.proofs.Common.{arith}
+use Rattle.mv_wasi.proofs.Bounds.{range-lies}
 use Rattle.mv_wasi.proofs.Owning.{bytes-then, ranges-kept, ranges-more}
 use Rattle.mv_wasi.proofs.iovecs.own_pieces.Goals as goal
+
+pub own_range-requires : goal.own_range-requires
+own_range-requires c =
+    omega (arith, c.loop-place.invariant.same.size, range-lies c.args.memory.now.bytes c.args.pieces.now c.loop-place.place-index (0, 0) (omega arith) c.requires)
 
 pub loop-place-preserved : goal.loop-place-preserved
 loop-place-preserved c = record {

@@ -1,11 +1,12 @@
 use Rattle.std.proofs.Common.{◌≡◌, ◌∙◌, Some}
 use Rattle.mv_guest.specs.Running.{stands_of}
-use Rattle.mv_guest.proofs.RunnerLaws.{prepare-waits, prepare-running, prepare-same}
+use Rattle.mv_guest.proofs.RunnerLaws.{prepare-waits, prepare-made, prepare-running, prepare-same}
 use Rattle.mv_guest.proofs.runner.Runner.prepare.Goals as goal
 
 pub own_answer-requires : goal.own_answer-requires
 own_answer-requires c = record {
   waits = prepare-waits c.self.inside.machine c.self.inside.args c.self.inside.trapped c.self.inside.pending c.self.inside.ready c.go.new.self (stands_of c.args.self.now) c.in-Calls.call c.self.view_is c.in_ok-event.ensures.done c.go.ensures.same c.in_ok-event.ensures.there (c.in_ok-event.ensures.event ∙ c.in-Calls.is) c.self.invariant;
+  made = prepare-made c.self.inside.machine c.self.inside.args c.self.inside.trapped c.self.inside.pending c.self.inside.ready c.go.new.self (stands_of c.args.self.now) c.in-Calls.call c.self.view_is c.in_ok-event.ensures.done c.go.ensures.same c.in_ok-event.ensures.there (c.in_ok-event.ensures.event ∙ c.in-Calls.is);
 }
 
 pub returns-in_err-own_answer-clause-same : goal.returns-in_err-own_answer-clause-same
