@@ -7,7 +7,7 @@ use Rattle.std.proofs.lemmas.Slice.Eq.{bytes_eq-Decides}
 use Rattle.mv_words.specs.Words.{Text, Part, parts, free, places}
 use Rattle.mv_words.specs.Commands.{option_names, AreInThrees, AreSingle, Gives, HasNone, Asks, IsAsked, Says, Values, values_in}
 use Rattle.mv_words.specs.declared.command.Command.{Command}
-use Rattle.mv_words.specs.declared.command.Command.TheVariants.{Run, Rehearse, Serve, Check, Rules, Audit, Show, Assemble, Help, Version}
+use Rattle.mv_words.specs.declared.command.Command.TheVariants.{Run, Rehearse, Serve, Check, Rules, Audit, Show, Assemble, Load, Help, Version}
 
 -- one word
 pub one_text : {A : Type 0} (f : A → Text) (xs : List A) (a : A) (w : Text) → length xs ≡ 1 → true ≡ bytes_eq (f (get_or xs 0 a)) w → map f xs ≡ w ∷ []
@@ -40,6 +40,7 @@ single_asked word values placed (Rules forward) asks = none_single values asks.1
 single_asked word values placed (Audit log old updates) asks = none_single values asks.1
 single_asked word values placed (Show log) asks = none_single values asks.1
 single_asked word values placed (Assemble text to) asks = none_single values asks.1
+single_asked word values placed (Load connections) asks = none_single values asks.1
 single_asked word values placed Help asks = absurd asks
 single_asked word values placed Version asks = absurd asks
 
@@ -53,6 +54,7 @@ says_by words word values placed (Rules forward) are gives asks = record { word 
 says_by words word values placed (Audit log old updates) are gives asks = record { word = word; behind = drop 1 words; words_are = are; values = values; placed = placed; gives = gives; asks = asks }
 says_by words word values placed (Show log) are gives asks = record { word = word; behind = drop 1 words; words_are = are; values = values; placed = placed; gives = gives; asks = asks }
 says_by words word values placed (Assemble text to) are gives asks = record { word = word; behind = drop 1 words; words_are = are; values = values; placed = placed; gives = gives; asks = asks }
+says_by words word values placed (Load connections) are gives asks = record { word = word; behind = drop 1 words; words_are = are; values = values; placed = placed; gives = gives; asks = asks }
 says_by words word values placed Help are gives asks = absurd asks
 says_by words word values placed Version are gives asks = absurd asks
 
@@ -76,6 +78,7 @@ no_command words no_help no_version none (Rules forward) says = none (Rules forw
 no_command words no_help no_version none (Audit log old updates) says = none (Audit log old updates) says
 no_command words no_help no_version none (Show log) says = none (Show log) says
 no_command words no_help no_version none (Assemble text to) says = none (Assemble text to) says
+no_command words no_help no_version none (Load connections) says = none (Load connections) says
 no_command words no_help no_version none Help says = no_help says
 no_command words no_help no_version none Version says = no_version says
 
@@ -190,6 +193,7 @@ audit_asked values placed (Check path) asks = absurd (other_word (codes "audit")
 audit_asked values placed (Rules forward) asks = absurd (other_word (codes "audit") (codes "rules") 0 (λ (letters : 97 ≡ 114). omega (arith, letters)) asks.0)
 audit_asked values placed (Show log) asks = absurd (other_word (codes "audit") (codes "show") 0 (λ (letters : 97 ≡ 115). omega (arith, letters)) asks.0)
 audit_asked values placed (Assemble text to) asks = absurd (other_word (codes "audit") (codes "assemble") 1 (λ (letters : 117 ≡ 115). omega (arith, letters)) asks.0)
+audit_asked values placed (Load connections) asks = absurd (other_word (codes "audit") (codes "load") 0 (λ (letters : 97 ≡ 108). omega (arith, letters)) asks.0)
 audit_asked values placed Help asks = absurd asks
 audit_asked values placed Version asks = absurd asks
 

@@ -1,12 +1,12 @@
 -- Words ask for one thing.
-use Rattle.std.proofs.Common.{◌≡◌, [], ◌∷◌, ℕ, List, codes, refl, ap, sym, ◌∙◌, subst, Option, Some, None, inl, inr, ◌⊎◌}
+use Rattle.std.proofs.Common.{◌≡◌, ◌≤◌, [], ◌∷◌, ℕ, List, codes, refl, ap, sym, ◌∙◌, subst, Option, Some, None, inl, inr, ◌⊎◌}
 use Rattle.std.specs.Prelude.{if◌then◌else◌, unwrap_or}
 use Rattle.std.specs.Str.{bytes_eq}
 use Rattle.mv_scan.specs.Numbers.{decimal}
 use Rattle.mv_words.specs.Words.{Text, Part, parts, free, places}
-use Rattle.mv_words.specs.Commands.{option_names, Gives, IsLog, IsRing, Asks, IsAsked, IsCommandWord, Says, Values, values_in}
+use Rattle.mv_words.specs.Commands.{option_names, Gives, IsLog, IsRing, IsSize, Asks, IsAsked, IsCommandWord, Says, Values, values_in}
 use Rattle.mv_words.specs.declared.command.Command.{Command}
-use Rattle.mv_words.specs.declared.command.Command.TheVariants.{Run, Rehearse, Serve, Check, Rules, Audit, Show, Assemble, Help, Version}
+use Rattle.mv_words.specs.declared.command.Command.TheVariants.{Run, Rehearse, Serve, Check, Rules, Audit, Show, Assemble, Load, Help, Version}
 
 head_is : (a b : Text) (xs ys : List Text) → a ∷ xs ≡ b ∷ ys → a ≡ b
 head_is a b xs ys e = cc
@@ -69,13 +69,23 @@ assembly_in [] = None
 assembly_in (text ∷ []) = None
 assembly_in (text ∷ to ∷ more) = Some (Assemble text to)
 
-abbrev choice : Text → (run rehearsal service check rules audit show assembly : Option Command) → Option Command
-choice word run rehearsal service check rules audit show assembly =
+abbrev load_in : List Text → Option Command
+load_in [] = None
+load_in (text ∷ more) = Some (Load (unwrap_or (decimal text) 0))
+
+load_is : (placed : List Text) (n : ℕ) → IsSize placed n → load_in placed ≡ Some (Load n)
+load_is [] n is = absurd is
+load_is (text ∷ []) n is = ap (λ (o : Option ℕ). Some (Load (unwrap_or o 0))) is.is
+load_is (text ∷ other ∷ more) n is = absurd is
+
+abbrev choice : Text → (run rehearsal service check rules audit show assembly load : Option Command) → Option Command
+choice word run rehearsal service check rules audit show assembly load =
     if bytes_eq word (codes "run") then run else (if bytes_eq word (codes "rehearse") then rehearsal else (if bytes_eq word (codes "serve") then service else (if bytes_eq word (codes "check") then check
-    else (if bytes_eq word (codes "rules") then rules else (if bytes_eq word (codes "audit") then audit else (if bytes_eq word (codes "show") then show else assembly))))))
+    else (if bytes_eq word (codes "rules") then rules else (if bytes_eq word (codes "audit") then audit else (if bytes_eq word (codes "show") then show
+    else (if bytes_eq word (codes "assemble") then assembly else load)))))))
 
 abbrev asked : Text → ℕ → Option Text → List Text → Option Command
-asked word ring log placed = choice word (run_in placed) (rehearsal_in ring log placed) (service_in ring log placed) (check_in placed) (rules_in placed) (audit_in placed) (show_in placed) (assembly_in placed)
+asked word ring log placed = choice word (run_in placed) (rehearsal_in ring log placed) (service_in ring log placed) (check_in placed) (rules_in placed) (audit_in placed) (show_in placed) (assembly_in placed) (load_in placed)
 
 abbrev command_in : Text → Values → List Text → Option Command
 command_in word values placed = asked word (ring_in values.rings) (log_in values.logs) placed
@@ -94,6 +104,7 @@ computed word values placed (Rules forward) asks = asked_by word _ _ placed _ _ 
 computed word values placed (Audit log old updates) asks = asked_by word _ _ placed _ _ _ _ _ asks.0 refl refl asks.2 refl
 computed word values placed (Show log) asks = asked_by word _ _ placed _ _ _ _ _ asks.0 refl refl asks.2 refl
 computed word values placed (Assemble text to) asks = asked_by word _ _ placed _ _ _ _ _ asks.0 refl refl asks.2 refl
+computed word values placed (Load connections) asks = asked_by word _ _ placed _ _ _ _ _ asks.0 refl refl refl (load_is placed connections asks.2)
 computed word values placed Help asks = absurd asks
 computed word values placed Version asks = absurd asks
 
@@ -141,7 +152,8 @@ command_word word values placed (Check path) asks = inr (inr (inr (inl asks.0)))
 command_word word values placed (Rules forward) asks = inr (inr (inr (inr (inl asks.0))))
 command_word word values placed (Audit log old updates) asks = inr (inr (inr (inr (inr (inl asks.0)))))
 command_word word values placed (Show log) asks = inr (inr (inr (inr (inr (inr (inl asks.0))))))
-command_word word values placed (Assemble text to) asks = inr (inr (inr (inr (inr (inr (inr asks.0))))))
+command_word word values placed (Assemble text to) asks = inr (inr (inr (inr (inr (inr (inr (inl asks.0)))))))
+command_word word values placed (Load connections) asks = inr (inr (inr (inr (inr (inr (inr (inr asks.0)))))))
 command_word word values placed Help asks = absurd asks
 command_word word values placed Version asks = absurd asks
 
@@ -153,7 +165,8 @@ help_no_word word e (inr (inr (inr (inl is)))) = let bad : codes "--help" ≡ co
 help_no_word word e (inr (inr (inr (inr (inl is))))) = let bad : codes "--help" ≡ codes "rules" = sym e ∙ is in absurd cc
 help_no_word word e (inr (inr (inr (inr (inr (inl is)))))) = let bad : codes "--help" ≡ codes "audit" = sym e ∙ is in absurd cc
 help_no_word word e (inr (inr (inr (inr (inr (inr (inl is))))))) = let bad : codes "--help" ≡ codes "show" = sym e ∙ is in absurd cc
-help_no_word word e (inr (inr (inr (inr (inr (inr (inr is))))))) = let bad : codes "--help" ≡ codes "assemble" = sym e ∙ is in absurd cc
+help_no_word word e (inr (inr (inr (inr (inr (inr (inr (inl is)))))))) = let bad : codes "--help" ≡ codes "assemble" = sym e ∙ is in absurd cc
+help_no_word word e (inr (inr (inr (inr (inr (inr (inr (inr is)))))))) = let bad : codes "--help" ≡ codes "load" = sym e ∙ is in absurd cc
 
 version_no_word : (word : Text) → word ≡ codes "--version" → IsCommandWord word → ⊥
 version_no_word word e (inl is) = let bad : codes "--version" ≡ codes "run" = sym e ∙ is in absurd cc
@@ -163,7 +176,8 @@ version_no_word word e (inr (inr (inr (inl is)))) = let bad : codes "--version" 
 version_no_word word e (inr (inr (inr (inr (inl is))))) = let bad : codes "--version" ≡ codes "rules" = sym e ∙ is in absurd cc
 version_no_word word e (inr (inr (inr (inr (inr (inl is)))))) = let bad : codes "--version" ≡ codes "audit" = sym e ∙ is in absurd cc
 version_no_word word e (inr (inr (inr (inr (inr (inr (inl is))))))) = let bad : codes "--version" ≡ codes "show" = sym e ∙ is in absurd cc
-version_no_word word e (inr (inr (inr (inr (inr (inr (inr is))))))) = let bad : codes "--version" ≡ codes "assemble" = sym e ∙ is in absurd cc
+version_no_word word e (inr (inr (inr (inr (inr (inr (inr (inl is)))))))) = let bad : codes "--version" ≡ codes "assemble" = sym e ∙ is in absurd cc
+version_no_word word e (inr (inr (inr (inr (inr (inr (inr (inr is)))))))) = let bad : codes "--version" ≡ codes "load" = sym e ∙ is in absurd cc
 
 help_asks_nothing : (words : List Text) (c : Command) → Says words Help → IsAsked words c → ⊥
 help_asks_nothing words c (inl is) asked = help_no_word asked.word (head_is _ _ _ _ (sym asked.words_are ∙ is)) (command_word _ _ _ c asked.asks)
@@ -191,6 +205,7 @@ three words (Rules forward) says = inl says
 three words (Audit log old updates) says = inl says
 three words (Show log) says = inl says
 three words (Assemble text to) says = inl says
+three words (Load connections) says = inl says
 three words Help says = inr (inl (refl, says))
 three words Version says = inr (inr (refl, says))
 
@@ -208,3 +223,12 @@ of_three words c d (inr (inr first)) (inr (inr second)) = first.0 ∙ sym second
 -- what words ask for is one thing
 pub one_reading : (words : List Text) (c d : Command) → Says words c → Says words d → c ≡ d
 one_reading words c d first second = of_three words c d (three words c first) (three words d second)
+
+size_within : (placed : List Text) (n : ℕ) → IsSize placed n → (1 ≤ n) × (n ≤ 10000)
+size_within [] n is = absurd is
+size_within (text ∷ []) n is = (is.low, is.high)
+size_within (text ∷ other ∷ more) n is = absurd is
+
+-- a load that words ask for has 1 to 10,000 connections
+pub load_within : (words : List Text) (n : ℕ) → Says words (Load n) → (1 ≤ n) × (n ≤ 10000)
+load_within words n says = size_within says.placed n says.asks.2

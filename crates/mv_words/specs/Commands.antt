@@ -3,7 +3,7 @@ use Rattle.std.specs.Prelude.{◌≡◌, ◌≤◌, ◌⊎◌, ℕ, List, [], �
 use Rattle.mv_scan.specs.Numbers.{decimal}
 use Rattle.mv_words.specs.Words.{Text, Part, parts, free, values_of, places}
 use Rattle.mv_words.specs.declared.command.Command.{Command}
-use Rattle.mv_words.specs.declared.command.Command.TheVariants.{Run, Rehearse, Serve, Check, Rules, Audit, Show, Assemble, Help, Version}
+use Rattle.mv_words.specs.declared.command.Command.TheVariants.{Run, Rehearse, Serve, Check, Rules, Audit, Show, Assemble, Load, Help, Version}
 use Rattle.mv_words.specs.declared.addresses.Addresses.{Addresses}
 
 -- the options that there are; where a command has no such option, it stands nowhere
@@ -35,17 +35,17 @@ pub record AreSingle (values : Values) : Type 0 where
   pub listen : length values.listens ≤ 1
   pub console : length values.consoles ≤ 1
 
--- 1 to 5 decimal digits, zeros may lead, of a number from 4 to 4,096
-pub record IsCapacity (text : Text) (n : ℕ) : Type 0 where
+-- 1 to 5 decimal digits, zeros may lead, of a number from the least to the most
+pub record IsWithin (least most : ℕ) (text : Text) (n : ℕ) : Type 0 where
   pub short : length text ≤ 5
   pub is : decimal text ≡ Some n
-  pub low : 4 ≤ n
-  pub high : n ≤ 4096
+  pub low : least ≤ n
+  pub high : n ≤ most
 
--- the capacity of the feed: 256 unless it is given, which it is once at most
+-- the capacity of the feed, from 4 to 4,096: 256 unless it is given, which it is once at most
 abbrev pub IsRing : List Text → ℕ → Type 0
 IsRing [] n = n ≡ 256
-IsRing (text ∷ []) n = IsCapacity text n
+IsRing (text ∷ []) n = IsWithin 4 4096 text n
 IsRing (text ∷ other ∷ more) n = ⊥
 
 -- the file for the log, which is given once at most
@@ -77,6 +77,12 @@ AreInThrees (m ∷ []) = ⊥
 AreInThrees (m ∷ f ∷ []) = ⊥
 AreInThrees (m ∷ f ∷ r ∷ more) = AreInThrees more
 
+-- one word, the number of connections of a load, from 1 to 10,000
+abbrev pub IsSize : List Text → ℕ → Type 0
+IsSize [] n = ⊥
+IsSize (text ∷ []) n = IsWithin 1 10000 text n
+IsSize (text ∷ other ∷ more) n = ⊥
+
 -- what a command word asks for, with these values of options and these words by their place
 abbrev pub Asks : Text → Values → List Text → Command → Type 0
 Asks word values placed (Run old args) = (word ≡ codes "run") × HasPlacesAlone values × (placed ≡ old ∷ args)
@@ -87,6 +93,7 @@ Asks word values placed (Rules forward) = (word ≡ codes "rules") × HasNone va
 Asks word values placed (Audit log old updates) = (word ≡ codes "audit") × HasNone values × (placed ≡ log ∷ old ∷ updates) × AreInThrees updates
 Asks word values placed (Show log) = (word ≡ codes "show") × HasNone values × (placed ≡ log ∷ [])
 Asks word values placed (Assemble text to) = (word ≡ codes "assemble") × HasNone values × (placed ≡ text ∷ to ∷ [])
+Asks word values placed (Load connections) = (word ≡ codes "load") × HasNone values × IsSize placed connections
 Asks word values placed Help = ⊥
 Asks word values placed Version = ⊥
 
@@ -102,7 +109,7 @@ pub record IsAsked (words : List Text) (command : Command) : Type 0 where
 
 abbrev pub IsCommandWord : Text → Type 0
 IsCommandWord word =
-    (word ≡ codes "run") ⊎ ((word ≡ codes "rehearse") ⊎ ((word ≡ codes "serve") ⊎ ((word ≡ codes "check") ⊎ ((word ≡ codes "rules") ⊎ ((word ≡ codes "audit") ⊎ ((word ≡ codes "show") ⊎ (word ≡ codes "assemble")))))))
+    (word ≡ codes "run") ⊎ ((word ≡ codes "rehearse") ⊎ ((word ≡ codes "serve") ⊎ ((word ≡ codes "check") ⊎ ((word ≡ codes "rules") ⊎ ((word ≡ codes "audit") ⊎ ((word ≡ codes "show") ⊎ ((word ≡ codes "assemble") ⊎ (word ≡ codes "load"))))))))
 
 -- the words of each command, the command word first
 abbrev pub Says : List Text → Command → Type 0

@@ -49,6 +49,10 @@ pub enum Command {
         text: Bytes,
         to: Bytes,
     },
+    /// `load N`; `connections` is 1 to 10,000.
+    Load {
+        connections: u32,
+    },
     /// `--help`, alone or behind a command word.
     Help,
     /// `--version`, alone.

@@ -1,7 +1,7 @@
 //! From the words of a command line to what they ask for.
 ghost use Rattle.std.specs.Prelude.{◌≡◌, ◌≢◌, ◌∷◌, ℕ, [], IfOk, IfSome, IsErrOf, IsTrue, None, codes, false, List, map, string_bytes};
 ghost use Rattle.mv_words.specs.Words.{Text};
-ghost use Rattle.mv_words.specs.Commands.{AreSingle, Asks, HasNone, IsCapacity, IsCommandWord, IsLog, IsRing, Says};
+ghost use Rattle.mv_words.specs.Commands.{AreSingle, Asks, HasNone, IsCommandWord, IsLog, IsRing, IsSize, IsWithin, Says};
 ghost use Rattle.mv_words.specs.Given.{listed, values_of_options};
 ghost use Rattle.mv_words.specs.declared.command.Command.{Command as Asked};
 ghost use Rattle.mv_words.specs.declared.command.Command.TheVariants as asked;
@@ -15,6 +15,15 @@ use std::alloc::Global;
 
 /// The capacity of the feed where the words don't give it.
 const DEFAULT_RING: u32 = 256;
+
+/// The least capacity of the feed.
+const LEAST_RING: u32 = 4;
+
+/// The greatest capacity of the feed.
+const MOST_RING: u32 = 4_096;
+
+/// The most connections of a load.
+const MOST_CONNECTIONS: u32 = 10_000;
 
 /// Reads the words of a command line, the command word first. They are refused where no command has such words.
 pub fn read_words(alloc: Global, words: &[String]) -> Result<Command, Or<BadWords>>
@@ -66,6 +75,7 @@ fn is_command_word(word: &str) -> bool
         || word == "audit"
         || word == "show"
         || word == "assemble"
+        || word == "load"
 }
 
 /// The forms of words that ask what the program is.
@@ -123,6 +133,9 @@ fn plain_command_of(alloc: Global, word: &str, given: &Given<'_>) -> Result<Comm
     }
     if word == "assemble" {
         return assembly_of(alloc, given);
+    }
+    if word == "load" {
+        return load_of(given);
     }
     let Some(path) = only_place(given.places.as_slice()) else {
         return Err(Or::Fault(BadWords));
@@ -280,6 +293,29 @@ fn assembly_of(alloc: Global, given: &Given<'_>) -> Result<Command, Or<BadWords>
     Ok(Command::Assemble { text, to })
 }
 
+/// What `load` asks for.
+fn load_of(given: &Given<'_>) -> Result<Command, Or<BadWords>>
+    requires { HasNone (values_of_options given.now.options) }
+    ensures ok { IfOk result (λ command. Asks (codes "load") (values_of_options given.now.options) (map (λ a. a.now) given.now.places.items) command) }
+    ensures bad { IsErrOf result (or.Fault (record {})) → (command : Asked) → Asks (codes "load") (values_of_options given.now.options) (map (λ a. a.now) given.now.places.items) command → ⊥ }
+{
+    match size_of(given.places.as_slice()) {
+        Some(connections) => Ok(Command::Load { connections }),
+        None => Err(Or::Fault(BadWords)),
+    }
+}
+
+/// The number of connections, where the words are one that is such a number.
+fn size_of(places: &[&str]) -> Option<u32>
+    ensures some { IfSome result (IsSize (map (λ a. a.now) places.now)) }
+    ensures none { result ≡ None → (n : ℕ) → IsSize (map (λ a. a.now) places.now) n → ⊥ }
+{
+    match only_place(places) {
+        Some(text) => number_within(text, 1, MOST_CONNECTIONS),
+        None => None,
+    }
+}
+
 /// The file for the log, where one is given.
 fn log_of(alloc: Global, log: Option<&str>) -> Result<Option<Bytes>, OutOfMemory>
     ensures { IfOk result (λ path. IsLog (listed log.entry) path) }
@@ -297,19 +333,19 @@ fn ring_of(ring: Option<&str>) -> Option<u32>
 {
     match ring {
         None => Some(DEFAULT_RING),
-        Some(text) => capacity_of(text),
+        Some(text) => number_within(text, LEAST_RING, MOST_RING),
     }
 }
 
-/// A number of 1 to 5 decimal digits, from 4 to 4,096.
-fn capacity_of(text: &str) -> Option<u32>
-    ensures some { IfSome result (IsCapacity text.now) }
-    ensures none { result ≡ None → (n : ℕ) → IsCapacity text.now n → ⊥ }
+/// A number of 1 to 5 decimal digits, from the least to the most.
+fn number_within(text: &str, least: u32, most: u32) -> Option<u32>
+    ensures some { IfSome result (IsWithin least most text.now) }
+    ensures none { result ≡ None → (n : ℕ) → IsWithin least most text.now n → ⊥ }
 {
     if text.len() > 5 {
         return None;
     }
-    match read_number(text.as_bytes(), 4, 4_096) {
+    match read_number(text.as_bytes(), u64::from(least), u64::from(most)) {
         Found::Is(n) => Some(n as u32),
         Found::Other | Found::OutOfRange => None,
     }

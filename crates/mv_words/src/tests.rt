@@ -50,8 +50,37 @@ fn updates(alloc: Global, words: &[String]) -> Result<usize, Fail> {
     }
 }
 
+/// The capacity that the words of a service give; 0 where they are another command's.
+fn service(alloc: Global, words: &[&str]) -> Result<u32, Fail> {
+    let words = texts(alloc, words)?;
+    match read_words(alloc, words.as_slice())? {
+        Command::Serve { ring, .. } => Ok(ring),
+        _ => Ok(0),
+    }
+}
+
+/// The word of the command that the words ask for, of some commands.
+fn asked(alloc: Global, words: &[&str]) -> Result<&'static str, Fail> {
+    let words = texts(alloc, words)?;
+    match read_words(alloc, words.as_slice())? {
+        Command::Show { .. } => Ok("show"),
+        Command::Assemble { .. } => Ok("assemble"),
+        Command::Help => Ok("--help"),
+        _ => Ok(""),
+    }
+}
+
+/// How many connections the words of a load give; 0 where they are another command's.
+fn connections(alloc: Global, words: &[&str]) -> Result<u32, Fail> {
+    let words = texts(alloc, words)?;
+    match read_words(alloc, words.as_slice())? {
+        Command::Load { connections } => Ok(connections),
+        _ => Ok(0),
+    }
+}
+
 #[test]
-fn words_in_the_grammar(rt: HostRuntime) -> Result<(), Fail> {
+fn rehearsals(rt: HostRuntime) -> Result<(), Fail> {
     let alloc = rt.alloc();
     assert_eq!(rt; rehearsal(alloc, &["rehearse", "old", "plan"])?, (256, 0));
     assert_eq!(rt;
@@ -66,13 +95,12 @@ fn words_in_the_grammar(rt: HostRuntime) -> Result<(), Fail> {
         rehearsal(alloc, &["rehearse", "--", "-", "--ring", "-"])?,
         (256, 1)
     );
-    let words = texts(alloc, &["serve", "old", "a", "--ring=4"])?;
-    assert!(rt;
-        matches!(
-            read_words(alloc, words.as_slice()),
-            Ok(Command::Serve { ring: 4, .. })
-        )
-    );
+    Ok(())
+}
+
+#[test]
+fn a_log_and_two_addresses(rt: HostRuntime) -> Result<(), Fail> {
+    let alloc = rt.alloc();
     let words = texts(
         alloc,
         &[
@@ -89,34 +117,43 @@ fn words_in_the_grammar(rt: HostRuntime) -> Result<(), Fail> {
     let addresses = places(alloc, words.as_slice())?;
     assert_eq!(rt; addresses.listen.slice(), b"a:1".as_slice());
     assert_eq!(rt; addresses.console.slice(), b"b:2".as_slice());
+    Ok(())
+}
+
+#[test]
+fn an_audit(rt: HostRuntime) -> Result<(), Fail> {
+    let alloc = rt.alloc();
     let words = texts(alloc, &["audit", "log", "old", "new", "none", "rev"])?;
     assert_eq!(rt; updates(alloc, words.as_slice())?, 3);
     assert_eq!(rt;
         places(alloc, words.as_slice())?.console.slice(),
         b"127.0.0.1:7071".as_slice()
     );
-    let words = texts(alloc, &["show", "log"])?;
-    assert!(rt;
-        matches!(
-            read_words(alloc, words.as_slice()),
-            Ok(Command::Show { .. })
-        )
-    );
-    let words = texts(alloc, &["assemble", "text", "out"])?;
-    assert!(rt;
-        matches!(
-            read_words(alloc, words.as_slice()),
-            Ok(Command::Assemble { .. })
-        )
-    );
-    let words = texts(alloc, &["check", "--help"])?;
-    assert!(rt; matches!(read_words(alloc, words.as_slice()), Ok(Command::Help)));
+    Ok(())
+}
+
+#[test]
+fn other_commands(rt: HostRuntime) -> Result<(), Fail> {
+    let alloc = rt.alloc();
+    assert_eq!(rt; service(alloc, &["serve", "old", "a", "--ring=4"])?, 4);
+    assert_eq!(rt; asked(alloc, &["show", "log"])?, "show");
+    assert_eq!(rt; asked(alloc, &["assemble", "text", "out"])?, "assemble");
+    assert_eq!(rt; asked(alloc, &["check", "--help"])?, "--help");
+    Ok(())
+}
+
+#[test]
+fn loads(rt: HostRuntime) -> Result<(), Fail> {
+    let alloc = rt.alloc();
+    assert_eq!(rt; connections(alloc, &["load", "1"])?, 1);
+    assert_eq!(rt; connections(alloc, &["load", "00012"])?, 12);
+    assert_eq!(rt; connections(alloc, &["load", "10000"])?, 10_000);
     Ok(())
 }
 
 #[test]
 fn words_outside_the_grammar(rt: HostRuntime) -> Result<(), Fail> {
-    let rows: [&[&str]; 18] = [
+    let rows: [&[&str]; 22] = [
         &[],
         &["jump"],
         &["run"],
@@ -135,6 +172,10 @@ fn words_outside_the_grammar(rt: HostRuntime) -> Result<(), Fail> {
         &["audit", "log", "old", "new", "none"],
         &["show", "log", "--console=b:2"],
         &["assemble", "text"],
+        &["load", "0"],
+        &["load", "10001"],
+        &["load", "000001"],
+        &["load", "1", "--ring", "8"],
     ];
     for words in rows {
         assert!(rt; are_refused(rt.alloc(), words)?);
