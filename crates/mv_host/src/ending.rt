@@ -3,29 +3,12 @@ ghost use Rattle.std.specs.Prelude.{◌≡◌, Some, true, false};
 ghost use Rattle.mv_core.specs.Cuts.{is_cut};
 ghost use Rattle.mv_host.specs.Served.{IsServed};
 ghost use Rattle.mv_rehearse.specs.Linked.{LineWaits};
-ghost use Rattle.mv_rehearse.specs.Runs.{end_status};
 
 use mv_core::Core;
 use mv_history::How;
 use mv_outside::{Console, Files, Kernel, Run};
-use mv_rehearse::Outcome;
+use mv_rehearse::{Outcome, status_by};
 use mv_version::Version;
-
-/// The status of a run that ended so.
-fn status_by(how: How) -> u8
-    ensures status { result ≡ end_status how }
-{
-    match how {
-        How::Ended(0) => 0,
-        How::Ended(_) => 1,
-        How::Trapped(_) => 5,
-        How::Halted => 0,
-        How::Cut => 0,
-        How::KernelFault => 6,
-        How::LogLimit => 10,
-        How::Memory => 9,
-    }
-}
 
 /// The outcome of a core whose log has ended so.
 pub(crate) fn end_run<V: Version, K: Kernel, C: Console, F: Files, N: Run>(

@@ -13,3 +13,4 @@ mod texts;
 
 pub use lines::log_lines;
 pub use names::{read_kind_name, rule_kind_name, trap_name, valid_kind_name};
+pub use orders::stage_name;

@@ -11,8 +11,8 @@ use mv_orders::{Last, OrderReply, Stage, Word};
 use serde_json::{Value, json};
 use std::alloc::{AllocError, Global};
 
-/// The name of a stage.
-fn stage_name(stage: Stage) -> &'static str
+/// The name of a stage, as in the answer to `status`.
+pub fn stage_name(stage: Stage) -> &'static str
     ensures { result.now ≡ stage_text stage }
 {
     match stage {
