@@ -1,6 +1,5 @@
 -- The four pieces of a connection are those of four draws, one behind the other.
-use Rattle.std.proofs.Common.{◌≡◌, ℕ, suc, ◌+◌, ◌*◌, ◌%◌, List, [], ◌∷◌, refl, sym, ap, ◌∙◌, arith}
-use Rattle.mv_kernmem.specs.declared.script.Conn.{Conn}
+use Rattle.std.proofs.Common.{◌≡◌, ℕ, suc, ◌+◌, ◌*◌, ◌%◌, [], ◌∷◌, refl, sym, ap, ◌∙◌, arith}
 use Rattle.mv_load.specs.Connections.{drawn, letters, piece, connection}
 
 abbrev next : ℕ → ℕ

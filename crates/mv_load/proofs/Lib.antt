@@ -1,3 +1,5 @@
 pub mod Draws
 pub mod Playing
 pub mod Sums
+pub mod Scheduled
+pub mod Rehearsing

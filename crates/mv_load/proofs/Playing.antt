@@ -1,5 +1,5 @@
 -- A kernel that has played a script so far goes on with it.
-use Rattle.std.proofs.Common.{◌≡◌, List, [], ◌∷◌, ◌++◌, Option, Some, Result, Ok, Err, IfOk, OnOk, OnErr, ap, sym, subst, ◌∙◌}
+use Rattle.std.proofs.Common.{◌≡◌, List, [], ◌∷◌, ◌++◌, Some, Result, Ok, Err, IfOk, OnOk, OnErr, ap, sym, subst, ◌∙◌}
 use Rattle.mv_calls.specs.declared.calls.Call.{Call}
 use Rattle.mv_calls.specs.declared.calls.Item.{Item}
 use Rattle.mv_calls.specs.declared.calls.Reply.{Reply}

@@ -5,6 +5,7 @@ ghost use Rattle.mv_calls.specs.Suits.{suits_of};
 ghost use Rattle.mv_outside.specs.Causes.{Rose};
 ghost use Rattle.mv_outside.specs.Told.{told_more};
 ghost use Rattle.mv_kernmem.specs.Kernels.{Begins, IsReady};
+ghost use Rattle.mv_load.specs.Played.{IsPlayed};
 
 use mv_calls::{Call, OutOfMemory, Reply, Room};
 use mv_kernmem::MemKernel;
@@ -54,6 +55,13 @@ impl<N: Plan> Player<N> {
             kernel,
             plan: PhantomData,
         }
+    }
+
+    /// What it has done is what its script says. The function does nothing; it carries the law.
+    pub fn has_played(&self)
+        ensures { IsPlayed N.script self.now }
+    {
+        let _ = &self.kernel;
     }
 }
 

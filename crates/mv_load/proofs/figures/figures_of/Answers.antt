@@ -1,4 +1,4 @@
-use Rattle.std.proofs.Common.{◌<◌, ◌≤◌, length, arith}
+use Rattle.std.proofs.Common.{◌<◌, length, arith}
 use Rattle.mv_load.specs.Figures.{bytes_in, calls_in, forks_in, promotes_in}
 use Rattle.mv_load.proofs.Sums.{sum_on, stage_on}
 use Rattle.mv_load.proofs.figures.figures_of.Goals as goal

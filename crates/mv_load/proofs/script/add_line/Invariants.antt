@@ -1,4 +1,4 @@
-use Rattle.std.proofs.Common.{◌≡◌, ◌++◌, ◌-◌, replicate, None}
+use Rattle.std.proofs.Common.{◌≡◌, ◌++◌, replicate, None}
 use Rattle.mv_load.proofs.script.add_line.Given as goal
 
 abbrev pub invariant-loop : goal.invariant-loop

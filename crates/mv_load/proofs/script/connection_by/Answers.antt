@@ -1,5 +1,4 @@
 use Rattle.std.proofs.Common.{true, ap, ◌∙◌}
-use Rattle.mv_load.specs.Connections.{connection}
 use Rattle.mv_load.proofs.Draws.{Draws, four_draws}
 use Rattle.mv_load.proofs.script.connection_by.Goals as goal
 
