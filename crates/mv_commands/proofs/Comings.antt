@@ -6,6 +6,7 @@ use Rattle.mv_calls.specs.declared.calls.Item.{Item}
 use Rattle.mv_outside.specs.Files.{ChangesOnly, FileMap}
 use Rattle.mv_outside.specs.Told.{told_more, told_more-none}
 use Rattle.mv_core.specs.Sound.{IsNewRun}
+use Rattle.mv_load.specs.Loads.{IsLoad, IsLegal as IsLegalLoad}
 use Rattle.mv_guest.specs.Standing.{Standing}
 use Rattle.mv_transform.specs.Births.{behaviour, started}
 use Rattle.mv_outside.specs.Began.{Began}
@@ -21,7 +22,7 @@ use Rattle.mv_words.specs.declared.command.Command.TheVariants as ask
 use Rattle.mv_inspect.specs.Told.{FileIs, IsMissing, StandsAt}
 use Rattle.mv_commands.specs.Named.{FoundAt, GoesOn, Starts, StopsAt, files_of}
 use Rattle.mv_commands.specs.Loading.{Meaning, IsJudged, ending_by}
-use Rattle.mv_words.specs.Commands.{AreInThrees, Says, IsRing}
+use Rattle.mv_words.specs.Commands.{AreInThrees, Says, IsRing, IsSize}
 use Rattle.mv_inspect.specs.Audits.{AreInThrees as AreThrees, AuditGoes, HasSomeLog, IsInspected, audit_files}
 use Rattle.mv_inspect.specs.Logs.{IsListed}
 use Rattle.mv_inspect.specs.declared.auditing.Inspected.{Inspected}
@@ -30,10 +31,12 @@ use Rattle.mv_inspect.specs.declared.listing.Listed.{Listed}
 use Rattle.mv_inspect.specs.declared.listing.Listed.TheVariants as listed
 use Rattle.mv_commands.specs.Loading.{audit_ending_by, show_ending_by}
 use Rattle.mv_words.proofs.OneReading.{one_reading}
-use Rattle.mv_commands.specs.Causes.{AssemblyOf, WroteAlone, Known, IsOnOneThread, IsKept, IsLegal, Keeps, KeepsFiles, RanFor, RunOf, Seen, NoGuest, CauseOf, HasCause, IsBegun, IsFeasible, IsRun, output_of}
+use Rattle.mv_commands.specs.Causes.{AnyNumber, AsksLoad, DidTheLog, IsLoadCommand, LoadOf, LoadsAs, AssemblyOf, WroteAlone, Known, IsOnOneThread, IsKept, IsLegal, Keeps, KeepsFiles, RanFor, RunOf, Seen, NoGuest, CauseOf, HasCause, IsBegun, IsFeasible, IsRun, output_of}
 use Rattle.mv_commands.specs.Keeping.{SaysHow}
-use Rattle.mv_commands.specs.Schedules.{schedule_of}
-use Rattle.mv_commands.specs.declared.ending.ScheduleFault.{ScheduleFault}
+use Rattle.mv_schedule.specs.Schedules.{schedule_of}
+use Rattle.mv_schedule.specs.declared.fault.ScheduleFault.{ScheduleFault}
+use Rattle.mv_commands.specs.declared.ending.LoadEnding.{LoadEnding}
+use Rattle.mv_commands.specs.declared.ending.LoadEnding.TheVariants.{Ended as LoadEnded, Refused as LoadRefused}
 use Rattle.mv_commands.specs.declared.ending.Ending.{Ending}
 use Rattle.mv_commands.specs.declared.ending.Ending.TheVariants as ending_is
 use Rattle.mv_commands.specs.declared.ending.Finding.{Finding}
@@ -101,6 +104,7 @@ ran_cause command before mid after log other h (ending_is.Audited illegal) same 
 ran_cause command before mid after log other h (ending_is.Shown entries) same run says keeps = absurd says
 ran_cause command before mid after log other h (ending_is.Assembled bytes) same run says keeps = absurd says
 ran_cause command before mid after log other h (ending_is.NotWritten path) same run says keeps = absurd says
+ran_cause command before mid after log other h (ending_is.Loaded loaded) same run says keeps = absurd says
 
 -- a command that judges one file
 pub judged_cause : (Says : Meaning) (command : Command) (path : List ℕ) (before after : Seen) (log : Log) (found : Judged) → slice_get (files_of command) 0 ≡ Some path → ((text : List ℕ) (finding : Finding) → Says text finding → FoundAt command before.files 0 text finding)
@@ -140,6 +144,11 @@ ring_feasible [] n is = (omega (arith, is), omega (arith, is))
 ring_feasible (text ∷ []) n is = (is.low, is.high)
 ring_feasible (text ∷ other ∷ more) n is = absurd is
 
+size_feasible : (placed : List (List ℕ)) (n : ℕ) → IsSize placed n → (1 ≤ n) × (n ≤ 10000)
+size_feasible [] n is = absurd is
+size_feasible (text ∷ []) n is = (is.low, is.high)
+size_feasible (text ∷ other ∷ more) n is = absurd is
+
 -- the first file is missing
 pub first_missing : (command : Command) (path : List ℕ) (before after : Seen) (log : Log) (ending : Ending) (faults : ℕ) → slice_get (files_of command) 0 ≡ Some path → ending ≡ ending_is.NoFile path → after.file_faults ≡ faults
     → IsMissing before.files path ⊎ Rose before.file_faults faults → NoGuest before after log → CauseOf command before after log ending
@@ -169,6 +178,7 @@ feasible words (ask.Rules forward) says = tt
 feasible words (ask.Audit log old updates) says = in_threes updates says.asks.3
 feasible words (ask.Show log) says = tt
 feasible words (ask.Assemble from to) says = tt
+feasible words (ask.Load connections) says = size_feasible says.placed connections says.asks.2
 feasible words ask.Help says = tt
 feasible words ask.Version says = tt
 
@@ -186,6 +196,7 @@ cause_by Is words command before after log (ending_is.Audited illegal) is says c
 cause_by Is words command before after log (ending_is.Shown entries) is says cause = (command, is, says, cause)
 cause_by Is words command before after log (ending_is.Assembled bytes) is says cause = (command, is, says, cause)
 cause_by Is words command before after log (ending_is.NotWritten path) is says cause = (command, is, says, cause)
+cause_by Is words command before after log (ending_is.Loaded loaded) is says cause = (command, is, says, cause)
 
 -- words that ask for a service ask for nothing on one thread
 pub no_service : (words : List (List ℕ)) (service : Command) → (IsOnOneThread service → ⊥) → Says words service → (command : Command) → IsOnOneThread command → Says words command → ⊥
@@ -205,8 +216,32 @@ assembly_is (ask.Check path) P holds = absurd holds
 assembly_is (ask.Rules forward) P holds = absurd holds
 assembly_is (ask.Audit from old updates) P holds = absurd holds
 assembly_is (ask.Show from) P holds = absurd holds
+assembly_is (ask.Load connections) P holds = absurd holds
 assembly_is ask.Help P holds = absurd holds
 assembly_is ask.Version P holds = absurd holds
+
+-- a command that asks for a load says how many connections it has
+pub load_is : (command : Command) (P : ℕ → Type 0) → LoadOf command P → (connections : ℕ) × (command ≡ ask.Load connections) × P connections
+load_is (ask.Load connections) P holds = (connections, refl, holds)
+load_is (ask.Assemble from to) P holds = absurd holds
+load_is (ask.Run old args) P holds = absurd holds
+load_is (ask.Rehearse old schedule args ring path) P holds = absurd holds
+load_is (ask.Serve old args ring path) P holds = absurd holds
+load_is (ask.Check path) P holds = absurd holds
+load_is (ask.Rules forward) P holds = absurd holds
+load_is (ask.Audit from old updates) P holds = absurd holds
+load_is (ask.Show from) P holds = absurd holds
+load_is ask.Help P holds = absurd holds
+load_is ask.Version P holds = absurd holds
+
+-- the log of a load is legal
+pub load_legal : (log : Log) (loaded : LoadEnding) (connections : ℕ) → LoadsAs log loaded connections → IsLegal log
+load_legal log (LoadEnded h figures) connections is = let run = is.0.run.legal in inr (run.first, ap₂ started run.same_module run.same_args ∙ run.started, run.legal)
+load_legal log (LoadRefused fault) connections is = inl is.0.entries
+
+-- an audit of it finds so
+pub load_audits : (connections : ℕ) (log : Log) → IsLoad connections log → IsLegalLoad log
+load_audits connections log is = let run = is.run.legal in record { first = run.first; started = ap₂ started run.same_module run.same_args ∙ run.started; legal = run.legal }
 
 run_legal : (old : List ℕ) (args : List (List ℕ)) (before after : Seen) (began : Began) (log : Log) (h : How) → IsRun old args before after began log h → IsLegal log
 run_legal old args before after began log h ran = inr (ran.legal.first, ap₂ started ran.legal.same_module ran.legal.same_args ∙ ran.legal.started, ran.legal.legal)
@@ -224,6 +259,7 @@ some_run (ask.Rules forward) before after log h ran = absurd ran
 some_run (ask.Audit record_ old updates) before after log h ran = absurd ran
 some_run (ask.Show record_) before after log h ran = absurd ran
 some_run (ask.Assemble from to) before after log h ran = absurd ran
+some_run (ask.Load connections) before after log h ran = absurd ran
 some_run ask.Help before after log h ran = absurd ran
 some_run ask.Version before after log h ran = absurd ran
 
@@ -244,6 +280,7 @@ legal_by Is words before after log (ending_is.Audited illegal) cause = inl cause
 legal_by Is words before after log (ending_is.Shown entries) cause = inl cause.3.1.entries
 legal_by Is words before after log (ending_is.Assembled bytes) cause = let a = assembly_is cause.0 _ cause.3 in inl a.3.1.entries
 legal_by Is words before after log (ending_is.NotWritten path) cause = let a = assembly_is cause.0 _ cause.3 in inl a.3.3.entries
+legal_by Is words before after log (ending_is.Loaded loaded) cause = let l = load_is cause.0 _ cause.3.0 in load_legal log loaded l.0 l.2
 
 -- ## The calls that were done
 
@@ -276,26 +313,66 @@ keeps_done wanted mid log after (ending_is.Audited illegal) keeps = absurd keeps
 keeps_done wanted mid log after (ending_is.Shown entries) keeps = absurd keeps
 keeps_done wanted mid log after (ending_is.Assembled bytes) keeps = absurd keeps
 keeps_done wanted mid log after (ending_is.NotWritten path) keeps = absurd keeps
+keeps_done wanted mid log after (ending_is.Loaded loaded) keeps = absurd keeps
 
 ran_did : (command : Command) (before after : Seen) (log : Log) (h : How) (ending : Ending) → RanFor command before after log h ending → Did before after log
 ran_did command before after log h ending ran =
     let r = some_run command before ran.0 log h ran.1 in
     keeps_done (output_of command) ran.0 log after ending ran.2 ∙ run_did r.0 r.1 before ran.0 r.2 log h r.3
 
+-- words that ask for another command ask for no load
+no_load : (words : List (List ℕ)) (command : Command) → Says words command → (IsLoadCommand command → ⊥) → AsksLoad words → ⊥
+no_load words command says other asks = other (subst IsLoadCommand (one_reading words asks.0 command asks.1 says) asks.2)
+
+-- the calls are the log's, and the words ask for no load
+did_all : (words : List (List ℕ)) (before after : Seen) (log : Log) (command : Command) → Says words command → (IsLoadCommand command → ⊥) → Did before after log → DidTheLog words before.done after.done log
+did_all words before after log command says other did = record { done = λ no. did; load = λ asks. absurd (no_load words command says other asks) }
+
+-- no guest ran, whatever was asked
+did_none : (words : List (List ℕ)) (before after : Seen) (log : Log) → NoGuest before after log → DidTheLog words before.done after.done log
+did_none words before after log none = record { done = λ no. none_did before after log none; load = λ asks. none.done }
+
+run_no_load : (command : Command) (before after : Seen) (log : Log) (h : How) → RunOf command before after log h → IsLoadCommand command → ⊥
+run_no_load command before after log h ran asks =
+    let l = load_is command AnyNumber asks in
+    subst (λ (c : Command). RunOf c before after log h) l.1 ran
+
+assembly_no_load : (command : Command) (P : List ℕ → List ℕ → Type 0) → AssemblyOf command P → IsLoadCommand command → ⊥
+assembly_no_load command P holds asks =
+    let l = load_is command AnyNumber asks in
+    subst (λ (c : Command). AssemblyOf c P) l.1 holds
+
+ran_did_all : (Is : Known) (words : List (List ℕ)) (before after : Seen) (log : Log) (h : How) (ending : Ending) → (found : (command : Command) × Is command × Says words command × RanFor command before after log h ending) → DidTheLog words before.done after.done log
+ran_did_all Is words before after log h ending found =
+    did_all words before after log found.0 found.2 (run_no_load found.0 before found.3.0 log h found.3.1) (ran_did found.0 before after log h ending found.3)
+
+wrote_did_all : (words : List (List ℕ)) (before after : Seen) (log : Log) (command : Command) (P : List ℕ → List ℕ → Type 0) → Says words command → AssemblyOf command P → (to : List ℕ) → WroteAlone to before after log → DidTheLog words before.done after.done log
+wrote_did_all words before after log command P says holds to wrote = did_all words before after log command says (assembly_no_load command P holds) (wrote_did to before after log wrote)
+
+-- a load did nothing with what was handed in
+loaded_did : (words : List (List ℕ)) (before after : Seen) (log : Log) (command : Command) (P : ℕ → Type 0) → Says words command → LoadOf command P → after ≡ before → DidTheLog words before.done after.done log
+loaded_did words before after log command P says holds same =
+    let l = load_is command P holds in
+    record {
+      done = λ no. absurd (no (command, says, subst IsLoadCommand (sym l.1) tt));
+      load = λ asks. ap (λ (s : Seen). s.done) same;
+    }
+
 -- whatever the words come to, the calls done are the log's
-pub did_by : (Is : Known) (words : List (List ℕ)) (before after : Seen) (log : Log) (ending : Ending) → HasCause Is words before after log ending → Did before after log
-did_by Is words before after log ending_is.BadWords cause = none_did before after log cause.1
-did_by Is words before after log ending_is.NoMemory cause = none_did before after log cause
-did_by Is words before after log ending_is.Told cause = none_did before after log cause.3.1
-did_by Is words before after log (ending_is.NoFile path) cause = none_did before after log cause.3.1
-did_by Is words before after log (ending_is.Found path finding) cause = none_did before after log cause.3.1
-did_by Is words before after log (ending_is.Ran h) cause = ran_did cause.0 before after log h (ending_is.Ran h) cause.3
-did_by Is words before after log (ending_is.LogFailed path h) cause = ran_did cause.0 before after log h (ending_is.LogFailed path h) cause.3
-did_by Is words before after log (ending_is.LogNotMade h) cause = ran_did cause.0 before after log h (ending_is.LogNotMade h) cause.3
-did_by Is words before after log (ending_is.Audited illegal) cause = none_did before after log cause.3.1
-did_by Is words before after log (ending_is.Shown entries) cause = none_did before after log cause.3.1
-did_by Is words before after log (ending_is.Assembled bytes) cause = let a = assembly_is cause.0 _ cause.3 in wrote_did a.1 before after log a.3.1
-did_by Is words before after log (ending_is.NotWritten path) cause = let a = assembly_is cause.0 _ cause.3 in wrote_did a.1 before after log a.3.3
+pub did_by : (Is : Known) (words : List (List ℕ)) (before after : Seen) (log : Log) (ending : Ending) → HasCause Is words before after log ending → DidTheLog words before.done after.done log
+did_by Is words before after log ending_is.BadWords cause = did_none words before after log cause.1
+did_by Is words before after log ending_is.NoMemory cause = did_none words before after log cause
+did_by Is words before after log ending_is.Told cause = did_none words before after log cause.3.1
+did_by Is words before after log (ending_is.NoFile path) cause = did_none words before after log cause.3.1
+did_by Is words before after log (ending_is.Found path finding) cause = did_none words before after log cause.3.1
+did_by Is words before after log (ending_is.Ran h) cause = ran_did_all Is words before after log h (ending_is.Ran h) cause
+did_by Is words before after log (ending_is.LogFailed path h) cause = ran_did_all Is words before after log h (ending_is.LogFailed path h) cause
+did_by Is words before after log (ending_is.LogNotMade h) cause = ran_did_all Is words before after log h (ending_is.LogNotMade h) cause
+did_by Is words before after log (ending_is.Audited illegal) cause = did_none words before after log cause.3.1
+did_by Is words before after log (ending_is.Shown entries) cause = did_none words before after log cause.3.1
+did_by Is words before after log (ending_is.Assembled bytes) cause = let a = assembly_is cause.0 _ cause.3 in wrote_did_all words before after log cause.0 _ cause.2 cause.3 a.1 a.3.1
+did_by Is words before after log (ending_is.NotWritten path) cause = let a = assembly_is cause.0 _ cause.3 in wrote_did_all words before after log cause.0 _ cause.2 cause.3 a.1 a.3.3
+did_by Is words before after log (ending_is.Loaded loaded) cause = loaded_did words before after log cause.0 _ cause.2 cause.3.0 cause.3.1
 
 -- ## The files
 
@@ -327,6 +404,7 @@ keeps_files words command mid log after (ending_is.Audited illegal) says keeps =
 keeps_files words command mid log after (ending_is.Shown entries) says keeps = absurd keeps
 keeps_files words command mid log after (ending_is.Assembled bytes) says keeps = absurd keeps
 keeps_files words command mid log after (ending_is.NotWritten path) says keeps = absurd keeps
+keeps_files words command mid log after (ending_is.Loaded loaded) says keeps = absurd keeps
 
 ran_files : (words : List (List ℕ)) (command : Command) (before after : Seen) (log : Log) (h : How) (ending : Ending) → Says words command → RanFor command before after log h ending → KeepsFiles words before.files after.files
 ran_files words command before after log h ending says ran =
@@ -347,6 +425,7 @@ files_by Is words before after log (ending_is.LogNotMade h) cause = ran_files wo
 files_by Is words before after log (ending_is.Audited illegal) cause = unchanged words _ _ cause.3.1.files
 files_by Is words before after log (ending_is.Shown entries) cause = unchanged words _ _ cause.3.1.files
 files_by Is words before after log (ending_is.Assembled bytes) cause = let a = assembly_is cause.0 _ cause.3 in changed words cause.0 a.1 _ _ cause.2 (ap output_of a.2) a.3.1.others
+files_by Is words before after log (ending_is.Loaded loaded) cause = unchanged words _ _ (ap (λ (s : Seen). s.files) cause.3.1)
 files_by Is words before after log (ending_is.NotWritten path) cause = let a = assembly_is cause.0 _ cause.3 in changed words cause.0 a.1 _ _ cause.2 (ap output_of a.2) a.3.3.others
 
 -- ## Logs that are read from files

@@ -14,6 +14,9 @@ use Rattle.mv_outside.specs.Began.{Began}
 use Rattle.mv_outside.specs.Causes.{Rose}
 use Rattle.mv_outside.specs.Files.{FileMap}
 use Rattle.mv_history.specs.Ends.{EndsBy}
+use Rattle.mv_load.specs.Files.{guest_file}
+use Rattle.mv_load.specs.Loads.{load_args}
+use Rattle.mv_load.specs.declared.guests.Demo.TheVariants as demo
 use Rattle.mv_history.specs.declared.log.How.{How}
 use Rattle.mv_history.specs.declared.log.Log.{Log}
 use Rattle.mv_rehearse.specs.Runs.{end_status}
@@ -22,21 +25,23 @@ use Rattle.mv_words.specs.Commands.{Says}
 use Rattle.mv_words.specs.declared.command.Command.{Command}
 use Rattle.mv_words.specs.declared.command.Command.TheVariants as ask
 use Rattle.mv_words.proofs.OneReading.{one_reading}
-use Rattle.mv_commands.specs.Lines.{Shows, status_of, audit_status, finding_status}
+use Rattle.mv_commands.specs.Lines.{Shows, status_of, audit_status, finding_status, loaded_status}
 use Rattle.mv_history.specs.declared.log.Entry.{Entry}
 use Rattle.mv_record.specs.File.{log_of}
 use Rattle.mv_inspect.specs.Audits.{HasSomeLog, StartsWith}
 use Rattle.mv_inspect.specs.Logs.{HasRecord}
 use Rattle.mv_inspect.specs.Told.{FileIs, IsMissing}
 use Rattle.mv_commands.specs.Named.{FoundAt, GoesOn, StopsAt, SaysOfModule, SaysOfRules, HasRuleFault, HasRules, IsRefused, IsRefusedBy, IsNoSchedule, IsSchedule, IsNoLog, Starts, files_of}
-use Rattle.mv_commands.specs.Causes.{Known, Seen, CauseOf, HasCause, HasStatus, IsAbout, RunsGuest, RunOf, RanFor, IsRun, IsAudit, IsShow, AuditOf, ShowOf, Keeps, output_of, AssemblyOf, Assembles, FailsToWrite, IsAssemble, AllGoOn, Otherwise, Fails, IsExact}
+use Rattle.mv_commands.specs.Causes.{Known, Seen, CauseOf, HasCause, HasStatus, IsAbout, RunsGuest, RunOf, RanFor, IsRun, IsAudit, IsShow, AuditOf, ShowOf, Keeps, output_of, AssemblyOf, Assembles, FailsToWrite, IsAssemble, IsLoadCommand, LoadOf, LoadsAs, AllGoOn, Otherwise, Fails, IsExact}
 use Rattle.mv_syntax.specs.declared.fault.ValidFault.{ValidFault}
 use Rattle.mv_text.specs.Assembly.{assembled}
 use Rattle.mv_commands.specs.Named.{IsAssembly, IsNoText, IsText}
-use Rattle.mv_commands.proofs.Comings.{assembly_is, rose_since}
+use Rattle.mv_commands.proofs.Comings.{assembly_is, load_is, rose_since}
 use Rattle.mv_commands.proofs.Updates.{named_there}
 use Rattle.mv_commands.specs.declared.ending.Finding.{Finding}
 use Rattle.mv_commands.specs.declared.ending.Finding.TheVariants.{Refused, Valid, BadRules, Rules, BadSchedule, BadLog, BadText}
+use Rattle.mv_commands.specs.declared.ending.LoadEnding.{LoadEnding}
+use Rattle.mv_commands.specs.declared.ending.LoadEnding.TheVariants.{Ended as LoadEnded, Refused as LoadRefused}
 use Rattle.mv_commands.specs.declared.ending.Ending.{Ending}
 use Rattle.mv_commands.specs.declared.ending.Ending.TheVariants as ending_is
 
@@ -231,6 +236,7 @@ one_status (ask.Audit from old updates) told (suc zero) text e f first second = 
 one_status (ask.Audit from old updates) told (suc (suc n)) text e f first second = absurd first
 one_status (ask.Show from) told n text e f first second = log_status text e f first second
 one_status (ask.Assemble from to) told n text e f first second = text_status text e f first second
+one_status (ask.Load connections) told n text e f first second = absurd first
 one_status ask.Help told n text e f first second = absurd first
 one_status ask.Version told n text e f first second = absurd first
 
@@ -318,6 +324,7 @@ ends_not_on (ask.Audit from old updates) told files (suc zero) text f e first se
 ends_not_on (ask.Audit from old updates) told files (suc (suc n)) text f e first second = first
 ends_not_on (ask.Show from) told files n text f e first second = log_not_bad text f first second
 ends_not_on (ask.Assemble from to) told files n text f e first second = text_not_bad text f first second
+ends_not_on (ask.Load connections) told files n text f e first second = second
 ends_not_on ask.Help told files n text f e first second = second
 ends_not_on ask.Version told files n text f e first second = second
 
@@ -346,6 +353,7 @@ data Kind : Type 0 where
   for_audits : Kind
   for_shows : Kind
   for_assembly : Kind
+  for_loads : Kind
   for_help : Kind
 
 abbrev kind_of : Command → Kind
@@ -357,6 +365,7 @@ kind_of (ask.Rules forward) = for_files
 kind_of (ask.Audit from old updates) = for_audits
 kind_of (ask.Show from) = for_shows
 kind_of (ask.Assemble from to) = for_assembly
+kind_of (ask.Load connections) = for_loads
 kind_of ask.Help = for_help
 kind_of ask.Version = for_help
 
@@ -393,9 +402,25 @@ audits_are_other e = cc
 shows_are_other : for_shows ≡ for_assembly → ⊥
 shows_are_other e = cc
 
+help_is_no_load : for_help ≡ for_loads → ⊥
+help_is_no_load e = cc
+
+guests_are_no_load : for_guests ≡ for_loads → ⊥
+guests_are_no_load e = cc
+
+audits_are_no_load : for_audits ≡ for_loads → ⊥
+audits_are_no_load e = cc
+
+shows_are_no_load : for_shows ≡ for_loads → ⊥
+shows_are_no_load e = cc
+
+assembly_is_no_load : for_assembly ≡ for_loads → ⊥
+assembly_is_no_load e = cc
+
 about_tells : (command : Command) → IsAbout command → kind_of command ≡ for_help
 about_tells ask.Help about = refl
 about_tells (ask.Assemble from to) about = absurd about
+about_tells (ask.Load connections) about = absurd about
 about_tells ask.Version about = refl
 about_tells (ask.Run old args) about = absurd about
 about_tells (ask.Rehearse old schedule args ring to) about = absurd about
@@ -412,6 +437,7 @@ guest_runs (ask.Serve old args ring to) guest = refl
 guest_runs (ask.Check path) guest = absurd guest
 guest_runs (ask.Rules forward) guest = absurd guest
 guest_runs (ask.Assemble from to) guest = absurd guest
+guest_runs (ask.Load connections) guest = absurd guest
 guest_runs (ask.Audit from old updates) guest = absurd guest
 guest_runs (ask.Show from) guest = absurd guest
 guest_runs ask.Help guest = absurd guest
@@ -425,6 +451,7 @@ is_audit (ask.Serve old args ring to) audit = absurd audit
 is_audit (ask.Check path) audit = absurd audit
 is_audit (ask.Rules forward) audit = absurd audit
 is_audit (ask.Assemble from to) audit = absurd audit
+is_audit (ask.Load connections) audit = absurd audit
 is_audit (ask.Show from) audit = absurd audit
 is_audit ask.Help audit = absurd audit
 is_audit ask.Version audit = absurd audit
@@ -437,6 +464,7 @@ is_show (ask.Serve old args ring to) show = absurd show
 is_show (ask.Check path) show = absurd show
 is_show (ask.Rules forward) show = absurd show
 is_show (ask.Assemble from to) show = absurd show
+is_show (ask.Load connections) show = absurd show
 is_show (ask.Audit from old updates) show = absurd show
 is_show ask.Help show = absurd show
 is_show ask.Version show = absurd show
@@ -450,6 +478,7 @@ ran_runs (ask.Rules forward) seen mid log h ran = absurd ran
 ran_runs (ask.Audit from old updates) seen mid log h ran = absurd ran
 ran_runs (ask.Show from) seen mid log h ran = absurd ran
 ran_runs (ask.Assemble from to) seen mid log h ran = absurd ran
+ran_runs (ask.Load connections) seen mid log h ran = absurd ran
 ran_runs ask.Help seen mid log h ran = absurd ran
 ran_runs ask.Version seen mid log h ran = absurd ran
 
@@ -462,6 +491,7 @@ audited_audits (ask.Check path) told answer audited = absurd audited
 audited_audits (ask.Rules forward) told answer audited = absurd audited
 audited_audits (ask.Show from) told answer audited = absurd audited
 audited_audits (ask.Assemble from to) told answer audited = absurd audited
+audited_audits (ask.Load connections) told answer audited = absurd audited
 audited_audits ask.Help told answer audited = absurd audited
 audited_audits ask.Version told answer audited = absurd audited
 
@@ -474,6 +504,7 @@ shown_shows (ask.Check path) told entries shown = absurd shown
 shown_shows (ask.Rules forward) told entries shown = absurd shown
 shown_shows (ask.Audit from old updates) told entries shown = absurd shown
 shown_shows (ask.Assemble from to) told entries shown = absurd shown
+shown_shows (ask.Load connections) told entries shown = absurd shown
 shown_shows ask.Help told entries shown = absurd shown
 shown_shows ask.Version told entries shown = absurd shown
 
@@ -491,6 +522,7 @@ no_files (ask.Rules forward) n path about named = about
 no_files (ask.Audit from old updates) n path about named = about
 no_files (ask.Show from) n path about named = about
 no_files (ask.Assemble from to) n path about named = about
+no_files (ask.Load connections) n path about named = about
 
 -- ## A command that came to its end went on past all its files
 
@@ -517,6 +549,7 @@ ran_goes (ask.Rules forward) seen mid log h ran = absurd ran
 ran_goes (ask.Audit from old updates) seen mid log h ran = absurd ran
 ran_goes (ask.Show from) seen mid log h ran = absurd ran
 ran_goes (ask.Assemble from to) seen mid log h ran = absurd ran
+ran_goes (ask.Load connections) seen mid log h ran = absurd ran
 ran_goes ask.Help seen mid log h ran = absurd ran
 ran_goes ask.Version seen mid log h ran = absurd ran
 
@@ -529,6 +562,7 @@ ran_ends (ask.Rules forward) seen mid log h ran = absurd ran
 ran_ends (ask.Audit from old updates) seen mid log h ran = absurd ran
 ran_ends (ask.Show from) seen mid log h ran = absurd ran
 ran_ends (ask.Assemble from to) seen mid log h ran = absurd ran
+ran_ends (ask.Load connections) seen mid log h ran = absurd ran
 ran_ends ask.Help seen mid log h ran = absurd ran
 ran_ends ask.Version seen mid log h ran = absurd ran
 
@@ -545,6 +579,7 @@ ran_later (ask.Rules forward) seen mid log h ran = absurd ran
 ran_later (ask.Audit from old updates) seen mid log h ran = absurd ran
 ran_later (ask.Show from) seen mid log h ran = absurd ran
 ran_later (ask.Assemble from to) seen mid log h ran = absurd ran
+ran_later (ask.Load connections) seen mid log h ran = absurd ran
 ran_later ask.Help seen mid log h ran = absurd ran
 ran_later ask.Version seen mid log h ran = absurd ran
 
@@ -572,6 +607,7 @@ audited_goes (ask.Check path) told answer audited = absurd audited
 audited_goes (ask.Rules forward) told answer audited = absurd audited
 audited_goes (ask.Show from) told answer audited = absurd audited
 audited_goes (ask.Assemble from to) told answer audited = absurd audited
+audited_goes (ask.Load connections) told answer audited = absurd audited
 audited_goes ask.Help told answer audited = absurd audited
 audited_goes ask.Version told answer audited = absurd audited
 
@@ -584,6 +620,7 @@ shown_goes (ask.Check path) told entries shown = absurd shown
 shown_goes (ask.Rules forward) told entries shown = absurd shown
 shown_goes (ask.Audit from old updates) told entries shown = absurd shown
 shown_goes (ask.Assemble from to) told entries shown = absurd shown
+shown_goes (ask.Load connections) told entries shown = absurd shown
 shown_goes ask.Help told entries shown = absurd shown
 shown_goes ask.Version told entries shown = absurd shown
 
@@ -596,12 +633,21 @@ assembled_goes command told P holds there =
 assembled_kind : (command : Command) (P : List ℕ → List ℕ → Type 0) → AssemblyOf command P → kind_of command ≡ for_assembly
 assembled_kind command P holds = let a = assembly_is command P holds in ap kind_of a.2
 
+-- a load reads no file
+load_kind : (command : Command) (P : ℕ → Type 0) → LoadOf command P → kind_of command ≡ for_loads
+load_kind command P holds = let l = load_is command P holds in ap kind_of l.1
+
+load_names_none : (command : Command) (P : ℕ → Type 0) → LoadOf command P → (n : ℕ) (path : List ℕ) → slice_get (files_of command) n ≡ Some path → ⊥
+load_names_none command P holds n path named =
+    let l = load_is command P holds in
+    no_more n path (subst (λ (c : Command). slice_get (files_of c) n ≡ Some path) l.1 named)
+
 output_goes : (seen after : Seen) (log : Log) (bytes : ℕ) (from to : List ℕ) → Assembles seen after log bytes from to → FileIs seen.files from IsText
 output_goes seen after log bytes from to made files e = (made.0.text, made.0.stands files e, (made.0.file, made.0.is_assembly))
 
 -- ## Every ending against what the words and the files say
 
--- the command came to its end: a guest ran, or a log was audited or shown
+-- the command came to its end: a guest ran, a log was audited or shown, a text was assembled, or a load was rehearsed
 data Done (command : Command) (seen after : Seen) (log : Log) (ending : Ending) : Type 0 where
   ran : (h : How) → ending ≡ ending_is.Ran h → RanFor command seen after log h ending → Done command seen after log ending
   unkept : (path : List ℕ) (h : How) → ending ≡ ending_is.LogFailed path h → RanFor command seen after log h ending → Done command seen after log ending
@@ -609,6 +655,7 @@ data Done (command : Command) (seen after : Seen) (log : Log) (ending : Ending) 
   audited : (answer : Option ℕ) → ending ≡ ending_is.Audited answer → AuditOf command seen.files answer → Done command seen after log ending
   made : (bytes : ℕ) → ending ≡ ending_is.Assembled bytes → AssemblyOf command (Assembles seen after log bytes) → Done command seen after log ending
   unwritten : (path : List ℕ) → ending ≡ ending_is.NotWritten path → AssemblyOf command (FailsToWrite seen after log path) → Done command seen after log ending
+  loads : (loaded : LoadEnding) → ending ≡ ending_is.Loaded loaded → LoadOf command (LoadsAs log loaded) → Done command seen after log ending
   shown_by : (entries : List Entry) → status_of ending ≡ 0 → ShowOf command seen.files entries → Done command seen after log ending
 
 done_goes : (command : Command) (seen after : Seen) (log : Log) (ending : Ending) → Done command seen after log ending → AllGoOn command seen.files
@@ -618,6 +665,7 @@ done_goes command seen after log ending (unmade h e was) = ran_goes command seen
 done_goes command seen after log ending (audited answer is was) = audited_goes command seen.files answer was
 done_goes command seen after log ending (made bytes e was) = assembled_goes command seen.files _ was (output_goes seen after log bytes)
 done_goes command seen after log ending (unwritten path e was) = assembled_goes command seen.files _ was (λ from to fails. fails.1)
+done_goes command seen after log ending (loads loaded e was) = λ n path named. absurd (load_names_none command _ was n path named)
 done_goes command seen after log ending (shown_by entries is was) = shown_goes command seen.files entries was
 
 done_not_about : (command : Command) (seen after : Seen) (log : Log) (ending : Ending) → Done command seen after log ending → IsAbout command → ⊥
@@ -627,6 +675,7 @@ done_not_about command seen after log ending (unmade h e was) about = tells_not_
 done_not_about command seen after log ending (audited answer is was) about = tells_not_audits (kind_of command) (about_tells command about) (audited_audits command seen.files answer was)
 done_not_about command seen after log ending (made bytes e was) about = kind_not (kind_of command) for_help for_assembly help_is_other (about_tells command about) (assembled_kind command _ was)
 done_not_about command seen after log ending (unwritten path e was) about = kind_not (kind_of command) for_help for_assembly help_is_other (about_tells command about) (assembled_kind command _ was)
+done_not_about command seen after log ending (loads loaded e was) about = kind_not (kind_of command) for_help for_loads help_is_no_load (about_tells command about) (load_kind command _ was)
 done_not_about command seen after log ending (shown_by entries is was) about = tells_not_shows (kind_of command) (about_tells command about) (shown_shows command seen.files entries was)
 
 module _ (Is : Known) (words : List (List ℕ)) (seen after : Seen) (log : Log) (sink : ℕ × ℕ) (status : ℕ) where
@@ -649,6 +698,7 @@ module _ (Is : Known) (words : List (List ℕ)) (seen after : Seen) (log : Log) 
   bad_words_is (ending_is.Shown entries) cause shows none = absurd (none cause.0 cause.1 cause.2)
   bad_words_is (ending_is.Assembled bytes) cause shows none = absurd (none cause.0 cause.1 cause.2)
   bad_words_is (ending_is.NotWritten path) cause shows none = absurd (none cause.0 cause.1 cause.2)
+  bad_words_is (ending_is.Loaded loaded) cause shows none = absurd (none cause.0 cause.1 cause.2)
 
   -- the cause is one of this command
   of_command : (command : Command) (ending : Ending) → Says words command → (found : (c : Command) × Is c × Says words c × CauseOf c seen after log ending) → CauseOf command seen after log ending
@@ -676,6 +726,7 @@ module _ (Is : Known) (words : List (List ℕ)) (seen after : Seen) (log : Log) 
   case_of command (ending_is.Audited illegal) is says cause = done (audited illegal refl (of_command command (ending_is.Audited illegal) says cause).0)
   case_of command (ending_is.Assembled bytes) is says cause = done (made bytes refl (of_command command (ending_is.Assembled bytes) says cause))
   case_of command (ending_is.NotWritten path) is says cause = done (unwritten path refl (of_command command (ending_is.NotWritten path) says cause))
+  case_of command (ending_is.Loaded loaded) is says cause = done (loads loaded refl (of_command command (ending_is.Loaded loaded) says cause).0)
   case_of command (ending_is.Shown entries) is says cause = done (shown_by entries.list refl (of_command command (ending_is.Shown entries) says cause).0)
 
   status_by : (ending other : Ending) → ending ≡ other → (status ≡ status_of ending) ⊎ Otherwise sink status → (status ≡ status_of other) ⊎ Otherwise sink status
@@ -787,6 +838,7 @@ module _ (Is : Known) (words : List (List ℕ)) (seen after : Seen) (log : Log) 
   ran_is command ending guest (inl (audited answer e was)) shows = absurd (runs_not_audits (kind_of command) (guest_runs command guest) (audited_audits command seen.files answer was))
   ran_is command ending guest (inl (made bytes e was)) shows = absurd (kind_not (kind_of command) for_guests for_assembly guests_are_other (guest_runs command guest) (assembled_kind command _ was))
   ran_is command ending guest (inl (unwritten path e was)) shows = absurd (kind_not (kind_of command) for_guests for_assembly guests_are_other (guest_runs command guest) (assembled_kind command _ was))
+  ran_is command ending guest (inl (loads loaded e was)) shows = absurd (kind_not (kind_of command) for_guests for_loads guests_are_no_load (guest_runs command guest) (load_kind command _ was))
   ran_is command ending guest (inl (shown_by entries e was)) shows = absurd (runs_not_shows (kind_of command) (guest_runs command guest) (shown_shows command seen.files entries was))
 
   audited_is : (command : Command) (ending : Ending) → IsAudit command → Done command seen after log ending ⊎ Fails seen after sink status → (status ≡ status_of ending) ⊎ Otherwise sink status
@@ -798,6 +850,7 @@ module _ (Is : Known) (words : List (List ℕ)) (seen after : Seen) (log : Log) 
   audited_is command ending audit (inl (unmade h e was)) shows = absurd (runs_not_audits (kind_of command) (ran_runs command seen was.0 log h was.1) (is_audit command audit))
   audited_is command ending audit (inl (made bytes e was)) shows = absurd (kind_not (kind_of command) for_audits for_assembly audits_are_other (is_audit command audit) (assembled_kind command _ was))
   audited_is command ending audit (inl (unwritten path e was)) shows = absurd (kind_not (kind_of command) for_audits for_assembly audits_are_other (is_audit command audit) (assembled_kind command _ was))
+  audited_is command ending audit (inl (loads loaded e was)) shows = absurd (kind_not (kind_of command) for_audits for_loads audits_are_no_load (is_audit command audit) (load_kind command _ was))
   audited_is command ending audit (inl (shown_by entries e was)) shows = absurd (audits_not_shows (kind_of command) (is_audit command audit) (shown_shows command seen.files entries was))
 
   shown_is : (command : Command) (ending : Ending) → IsShow command → Done command seen after log ending ⊎ Fails seen after sink status → (status ≡ status_of ending) ⊎ Otherwise sink status
@@ -810,6 +863,7 @@ module _ (Is : Known) (words : List (List ℕ)) (seen after : Seen) (log : Log) 
   shown_is command ending show (inl (unmade h e was)) shown = absurd (runs_not_shows (kind_of command) (ran_runs command seen was.0 log h was.1) (is_show command show))
   shown_is command ending show (inl (made bytes e was)) shown = absurd (kind_not (kind_of command) for_shows for_assembly shows_are_other (is_show command show) (assembled_kind command _ was))
   shown_is command ending show (inl (unwritten path e was)) shown = absurd (kind_not (kind_of command) for_shows for_assembly shows_are_other (is_show command show) (assembled_kind command _ was))
+  shown_is command ending show (inl (loads loaded e was)) shown = absurd (kind_not (kind_of command) for_shows for_loads shows_are_no_load (is_show command show) (load_kind command _ was))
   shown_is command ending show (inl (audited answer e was)) shown = absurd (audits_not_shows (kind_of command) (audited_audits command seen.files answer was) (is_show command show))
 
   assembled_is : (command : Command) (ending : Ending) → IsAssemble command → Done command seen after log ending ⊎ Fails seen after sink status → (status ≡ status_of ending) ⊎ Otherwise sink status
@@ -824,6 +878,35 @@ module _ (Is : Known) (words : List (List ℕ)) (seen after : Seen) (log : Log) 
   assembled_is command ending asks (inl (unmade h e was)) look = absurd (kind_not (kind_of command) for_guests for_assembly guests_are_other (ran_runs command seen was.0 log h was.1) (assembled_kind command _ asks))
   assembled_is command ending asks (inl (audited answer e was)) look = absurd (kind_not (kind_of command) for_audits for_assembly audits_are_other (audited_audits command seen.files answer was) (assembled_kind command _ asks))
   assembled_is command ending asks (inl (shown_by entries e was)) look = absurd (kind_not (kind_of command) for_shows for_assembly shows_are_other (shown_shows command seen.files entries was) (assembled_kind command _ asks))
+  assembled_is command ending asks (inl (loads loaded e was)) look = absurd (kind_not (kind_of command) for_assembly for_loads assembly_is_no_load (assembled_kind command _ asks) (load_kind command _ was))
+
+  -- a load that was asked for came to its end
+  load_ended : (command : Command) (ending : Ending) (loaded : LoadEnding) (connections : ℕ) → Starts load_args (guest_file demo.Old) → LoadsAs log loaded connections → (status ≡ loaded_status loaded) ⊎ Otherwise sink status
+      → ((h : How) × EndsBy log.entries.list h × (status ≡ end_status h)) ⊎ Otherwise sink status
+  load_ended command ending (LoadEnded h figures) connections starts was (inl is) = inl (h, was.1, is)
+  load_ended command ending (LoadEnded h figures) connections starts was (inr other) = inr other
+  load_ended command ending (LoadRefused fault) connections starts was look = absurd (ok_not_err _ _ _ starts.1 was.1)
+
+  load_done : (command : Command) (ending : Ending) → IsLoadCommand command → Starts load_args (guest_file demo.Old) → Done command seen after log ending → (status ≡ status_of ending) ⊎ Otherwise sink status
+      → ((h : How) × EndsBy log.entries.list h × (status ≡ end_status h)) ⊎ Otherwise sink status
+  load_done command ending asks starts (loads loaded e was) look =
+      let l = load_is command _ was in
+      load_ended command ending loaded l.0 starts l.2 (status_by ending (ending_is.Loaded loaded) e look)
+  load_done command ending asks starts (ran h e was) look = absurd (kind_not (kind_of command) for_guests for_loads guests_are_no_load (ran_runs command seen was.0 log h was.1) (load_kind command _ asks))
+  load_done command ending asks starts (unkept path h e was) look = absurd (kind_not (kind_of command) for_guests for_loads guests_are_no_load (ran_runs command seen was.0 log h was.1) (load_kind command _ asks))
+  load_done command ending asks starts (unmade h e was) look = absurd (kind_not (kind_of command) for_guests for_loads guests_are_no_load (ran_runs command seen was.0 log h was.1) (load_kind command _ asks))
+  load_done command ending asks starts (audited answer e was) look = absurd (kind_not (kind_of command) for_audits for_loads audits_are_no_load (audited_audits command seen.files answer was) (load_kind command _ asks))
+  load_done command ending asks starts (made bytes e was) look = absurd (kind_not (kind_of command) for_assembly for_loads assembly_is_no_load (assembled_kind command _ was) (load_kind command _ asks))
+  load_done command ending asks starts (unwritten path e was) look = absurd (kind_not (kind_of command) for_assembly for_loads assembly_is_no_load (assembled_kind command _ was) (load_kind command _ asks))
+  load_done command ending asks starts (shown_by entries e was) look = absurd (kind_not (kind_of command) for_shows for_loads shows_are_no_load (shown_shows command seen.files entries was) (load_kind command _ asks))
+
+  loaded_is : (command : Command) (ending : Ending) → IsLoadCommand command → Starts load_args (guest_file demo.Old) → Case command ending → (status ≡ status_of ending) ⊎ Otherwise sink status
+      → ((h : How) × EndsBy log.entries.list h × (status ≡ end_status h)) ⊎ Otherwise sink status
+  loaded_is command ending asks starts (gone path e stops) look = absurd (load_names_none command _ asks stops.number path stops.named)
+  loaded_is command ending asks starts (found path finding e stops) look = absurd (load_names_none command _ asks stops.number path stops.named)
+  loaded_is command ending asks starts (done was) look = load_done command ending asks starts was look
+  loaded_is command ending asks starts (wanted e) look = inr (memory_is (status_by ending ending_is.NoMemory e look))
+  loaded_is command ending asks starts (said e about) look = absurd (kind_not (kind_of command) for_help for_loads help_is_no_load (about_tells command about) (load_kind command _ asks))
 
   assemble_not_about : (command : Command) → IsAssemble command → IsAbout command → ⊥
   assemble_not_about command asks about = kind_not (kind_of command) for_help for_assembly help_is_other (about_tells command about) (assembled_kind command _ asks)
@@ -851,6 +934,7 @@ exact_is Is words seen after log printed sink status has =
       found = λ command files path finding is says told stops. found_is Is words seen after log sink status command files path finding ending told stops (by command is says) look;
       audited = λ command files is says audit told goes. audited_is Is words seen after log sink status command ending audit (to_end command files is says (audit_not_about Is words seen after log sink status command audit) told goes) look;
       assembled = λ command files is says asks told goes. assembled_is Is words seen after log sink status command ending asks (to_end command files is says (assemble_not_about Is words seen after log sink status command asks) told goes) look;
+      loaded = λ command is says asks starts. loaded_is Is words seen after log sink status command ending asks starts (by command is says) look;
       shown = λ command files is says show told goes. shown_is Is words seen after log sink status command ending show (to_end command files is says (show_not_about Is words seen after log sink status command show) told goes) look;
       ran = λ command files is says guest told goes. ran_is Is words seen after log sink status command ending guest (to_end command files is says (guest_not_about Is words seen after log sink status command guest) told goes) look;
     }

@@ -1,6 +1,5 @@
 pub mod Wholes
 pub mod Writable
-pub mod Letters
 pub mod Comings
 pub mod Showings
 pub mod Updates

@@ -2,7 +2,7 @@
 use Rattle.std.proofs.Common.{[], List, ℕ, refl}
 use Rattle.mv_commands.specs.Lines.{IsLine}
 use Rattle.mv_commands.specs.declared.ending.Ending.{Ending}
-use Rattle.mv_commands.specs.declared.ending.Ending.TheVariants.{BadWords, NoMemory, Told, NoFile, Found, Ran, LogFailed, LogNotMade, Audited, Shown, Assembled, NotWritten}
+use Rattle.mv_commands.specs.declared.ending.Ending.TheVariants.{BadWords, NoMemory, Told, NoFile, Found, Ran, LogFailed, LogNotMade, Audited, Shown, Assembled, NotWritten, Loaded}
 
 pub some_line : (ending : Ending) → (line : List ℕ) × IsLine ending line
 some_line BadWords = (_, refl)
@@ -17,3 +17,4 @@ some_line (Audited illegal) = (_, refl)
 some_line (Shown entries) = (_, refl)
 some_line (Assembled bytes) = (_, refl)
 some_line (NotWritten path) = (_, refl)
+some_line (Loaded loaded) = (_, refl)

@@ -24,11 +24,11 @@ use Rattle.mv_commands.specs.Loading.{IsMade, IsMadeOf}
 use Rattle.mv_commands.specs.declared.assembling.Made.{Made}
 use Rattle.mv_commands.specs.declared.assembling.Made.TheVariants as made
 use Rattle.mv_commands.specs.Loading.{IsJudged, IsJudgedOf, IsLoaded, IsStarted, IsPlanned, IsPlannedOf}
-use Rattle.mv_commands.specs.Schedules.{schedule_of}
+use Rattle.mv_schedule.specs.Schedules.{schedule_of}
 use Rattle.mv_commands.specs.declared.ending.Finding.{Finding}
 use Rattle.mv_commands.specs.declared.ending.Finding.TheVariants.{Refused, Valid, BadRules, Rules, BadSchedule, BadLog, BadText}
-use Rattle.mv_commands.specs.declared.ending.ScheduleFault.{ScheduleFault}
-use Rattle.mv_commands.specs.declared.ending.ScheduleFault.TheVariants as schedule_fault
+use Rattle.mv_schedule.specs.declared.fault.ScheduleFault.{ScheduleFault}
+use Rattle.mv_schedule.specs.declared.fault.ScheduleFault.TheVariants as schedule_fault
 use Rattle.mv_commands.specs.declared.judging.Judged.{Judged}
 use Rattle.mv_commands.specs.declared.judging.Judged.TheVariants as judged
 use Rattle.mv_commands.specs.declared.loading.Loaded.{Loaded}

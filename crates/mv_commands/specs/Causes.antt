@@ -1,11 +1,16 @@
 -- What holds where a command line comes to an ending, and which ending comes (docs/GUIDE.md, "Statuses").
-use Rattle.std.specs.Prelude.{◌≡◌, ◌≤◌, ◌⊎◌, ℕ, List, [], ◌∷◌, Option, Some, None, length, slice_get, Ok}
+use Rattle.std.specs.Prelude.{◌≡◌, ◌≤◌, ◌⊎◌, ℕ, List, [], ◌∷◌, Option, Some, None, length, slice_get, Ok, Err}
 use Rattle.mv_calls.specs.declared.calls.Item.{Item}
 use Rattle.mv_outside.specs.Began.{Began}
 use Rattle.mv_outside.specs.Causes.{Rose}
 use Rattle.mv_outside.specs.Files.{ChangesOnly, FileMap, HasFile}
+use Rattle.mv_outside.specs.Told.{told_more}
+use Rattle.mv_load.specs.Figures.{figures_of}
+use Rattle.mv_load.specs.Files.{guest_file}
+use Rattle.mv_load.specs.Loads.{IsLoad, load_args}
+use Rattle.mv_load.specs.declared.guests.Demo.TheVariants as demo
 use Rattle.mv_history.specs.Ends.{EndsBy}
-use Rattle.mv_history.specs.World.{AreLegal, begun, texts}
+use Rattle.mv_history.specs.World.{AreLegal, begun, outside, texts}
 use Rattle.mv_history.specs.declared.log.Entry.{Entry}
 use Rattle.mv_history.specs.declared.log.How.{How}
 use Rattle.mv_history.specs.declared.log.How.TheVariants as how
@@ -24,11 +29,13 @@ use Rattle.mv_inspect.specs.Audits.{AreInThrees, IsAudited}
 use Rattle.mv_inspect.specs.Logs.{HasLog}
 use Rattle.mv_inspect.specs.Told.{FileIs, IsMissing, StandsAt}
 use Rattle.mv_commands.specs.Lines.{Shows, audit_status, finding_status}
-use Rattle.mv_commands.specs.Named.{FoundAt, GoesOn, IsAssembly, IsText, StopsAt, files_of}
-use Rattle.mv_commands.specs.Schedules.{schedule_of}
+use Rattle.mv_commands.specs.Named.{FoundAt, GoesOn, IsAssembly, IsText, Starts, StopsAt, files_of}
+use Rattle.mv_schedule.specs.Schedules.{schedule_of}
 use Rattle.mv_commands.specs.declared.ending.Finding.{Finding}
+use Rattle.mv_commands.specs.declared.ending.LoadEnding.{LoadEnding}
+use Rattle.mv_commands.specs.declared.ending.LoadEnding.TheVariants.{Ended as LoadEnded, Refused as LoadRefused}
 use Rattle.mv_commands.specs.declared.ending.Ending.{Ending}
-use Rattle.mv_commands.specs.declared.ending.Ending.TheVariants.{BadWords, NoMemory, Told, NoFile, Found, Ran, LogFailed, LogNotMade, Audited, Shown, Assembled, NotWritten}
+use Rattle.mv_commands.specs.declared.ending.Ending.TheVariants.{BadWords, NoMemory, Told, NoFile, Found, Ran, LogFailed, LogNotMade, Audited, Shown, Assembled, NotWritten, Loaded}
 
 -- what kernel, console and files tell at a moment, and how often each has failed
 pub record Seen : Type 0 where
@@ -45,6 +52,13 @@ seen_of done kernel_faults coming said console_faults content file_faults kernel
     record { done = done kernel; coming = coming console; said = said console; files = content files; kernel_faults = kernel_faults kernel; console_faults = console_faults console; file_faults = file_faults files }
 
 -- ## No guest ran
+
+-- the log of no run
+pub record IsEmptyLog (log : Log) : Type 0 where
+  pub entries : log.entries.list ≡ []
+  pub updates : log.updates.list ≡ []
+  pub bytes : log.start.«module» ≡ []
+  pub args : log.start.args ≡ []
 
 pub record NoGuest (before after : Seen) (log : Log) : Type 0 where
   pub entries : log.entries.list ≡ []
@@ -238,11 +252,31 @@ Assembles before after log bytes from to = IsOutput before.files from after.file
 abbrev pub FailsToWrite : Seen → Seen → Log → List ℕ → List ℕ → List ℕ → Type 0
 FailsToWrite before after log path from to = (path ≡ to) × FileIs before.files from IsText × Rose before.file_faults after.file_faults × WroteAlone to before after log
 
--- the capacity that a command gives is one of a feed, and the files of updates come in threes
+-- ## A load
+
+-- The rehearsal of a load of so many connections ended so, and these are the figures of its log, which is legal; or no guest starts
+-- of its module, and there is no log.
+abbrev pub LoadsAs : Log → LoadEnding → ℕ → Type 0
+LoadsAs log (LoadEnded h figures) connections = IsLoad connections log × EndsBy log.entries.list h × (figures ≡ figures_of log.entries.list)
+LoadsAs log (LoadRefused fault) connections = IsEmptyLog log × (started (guest_file demo.Old) load_args ≡ Err fault)
+
+-- the command asks for a load, and P holds of how many connections it has
+abbrev pub LoadOf : Command → (ℕ → Type 0) → Type 0
+LoadOf (ask.Load connections) P = P connections
+LoadOf command P = ⊥
+
+abbrev pub AnyNumber : ℕ → Type 0
+AnyNumber connections = Unit {0}
+
+abbrev pub IsLoadCommand : Command → Type 0
+IsLoadCommand command = LoadOf command AnyNumber
+
+-- the capacity that a command gives is one of a feed, the files of updates come in threes, and a load has 1 to 10,000 connections
 abbrev pub IsFeasible : Command → Type 0
 IsFeasible (ask.Rehearse old schedule args ring log) = (4 ≤ ring) × (ring ≤ 4096)
 IsFeasible (ask.Serve old args ring log) = (4 ≤ ring) × (ring ≤ 4096)
 IsFeasible (ask.Audit log old updates) = AreInThrees updates
+IsFeasible (ask.Load connections) = (1 ≤ connections) × (connections ≤ 10000)
 IsFeasible command = Unit {0}
 
 -- which commands there are: each, or each that starts no thread
@@ -272,6 +306,7 @@ CauseOf command before after log (Audited illegal) = AuditOf command before.file
 CauseOf command before after log (Shown entries) = ShowOf command before.files entries.list × NoGuest before after log
 CauseOf command before after log (Assembled bytes) = AssemblyOf command (Assembles before after log bytes)
 CauseOf command before after log (NotWritten path) = AssemblyOf command (FailsToWrite before after log path)
+CauseOf command before after log (Loaded loaded) = LoadOf command (LoadsAs log loaded) × (after ≡ before)
 
 -- of these words, over the commands that there are; where memory was wanted before they were read, nobody knows what they say
 abbrev pub HasCause : Known → List (List ℕ) → Seen → Seen → Log → Ending → Type 0
@@ -311,11 +346,23 @@ pub record IsExact (Is : Known) (words : List (List ℕ)) (before after : Seen) 
       ((answer : Option ℕ) × AuditOf command before.files answer × (status ≡ audit_status answer)) ⊎ Fails before after sink_faults status
   pub assembled : (command : Command) (files : FileMap) → Is command → Says words command → IsAssemble command → before.files ≡ Some files → AllGoOn command before.files →
       (status ≡ 0) ⊎ Fails before after sink_faults status
+  pub loaded : (command : Command) → Is command → Says words command → IsLoadCommand command → Starts load_args (guest_file demo.Old) →
+      ((h : How) × EndsBy log.entries.list h × (status ≡ end_status h)) ⊎ Otherwise sink_faults status
   pub shown : (command : Command) (files : FileMap) → Is command → Says words command → IsShow command → before.files ≡ Some files → AllGoOn command before.files →
       (status ≡ 0) ⊎ Fails before after sink_faults status
   pub ran : (command : Command) (files : FileMap) → Is command → Says words command → RunsGuest command → before.files ≡ Some files →
       AllGoOn command before.files →
       ((h : How) × EndsBy log.entries.list h × (status ≡ end_status h)) ⊎ Fails before after sink_faults status
+
+-- ## The calls
+
+abbrev pub AsksLoad : List (List ℕ) → Type 0
+AsksLoad words = (command : Command) × Says words command × IsLoadCommand command
+
+-- The calls that the kernel did are exactly the log's. The log of a load is that of a kernel of its own: then this one did none.
+pub record DidTheLog (words : List (List ℕ)) (before after : Option (List Item)) (log : Log) : Type 0 where
+  pub done : (AsksLoad words → ⊥) → after ≡ told_more before (outside log.entries.list)
+  pub load : AsksLoad words → after ≡ before
 
 -- ## The log
 

@@ -1,6 +1,5 @@
--- In the order to read: the lines and statuses, schedules, what named files are, what holds of each ending.
+-- In the order to read: the lines and statuses, what named files are, what holds of each ending.
 pub mod Lines
-pub mod Schedules
 pub mod Named
 pub mod Causes
 pub mod Loading

@@ -8,6 +8,8 @@ use Rattle.mv_statements.specs.declared.fault.TextKind.{TextKind}
 use Rattle.mv_statements.specs.declared.fault.TextKind.TheVariants as text_kind
 use Rattle.mv_record.specs.declared.fault.RecordKind.{RecordKind}
 use Rattle.mv_record.specs.declared.fault.RecordKind.TheVariants as record_kind
+use Rattle.mv_load.specs.declared.figures.Figures.{Figures}
+use Rattle.mv_orders.specs.Reply.{stage_name}
 use Rattle.mv_show.specs.Lines.{log_text}
 use Rattle.mv_show.specs.Names.{trap_text, read_kind_text, valid_kind_text, rule_kind_text}
 use Rattle.mv_history.specs.declared.log.How.{How}
@@ -15,12 +17,14 @@ use Rattle.mv_history.specs.declared.log.How.TheVariants as how
 use Rattle.mv_rehearse.specs.Runs.{end_status}
 use Rattle.mv_outside.specs.Causes.{Rose}
 use Rattle.mv_outside.specs.Told.{told_more, AddsPart}
-use Rattle.mv_commands.specs.declared.ending.ScheduleFault.{ScheduleFault}
-use Rattle.mv_commands.specs.declared.ending.ScheduleFault.TheVariants.{Letter, Limit}
+use Rattle.mv_schedule.specs.declared.fault.ScheduleFault.{ScheduleFault}
+use Rattle.mv_schedule.specs.declared.fault.ScheduleFault.TheVariants.{Letter, Limit}
 use Rattle.mv_commands.specs.declared.ending.Finding.{Finding}
 use Rattle.mv_commands.specs.declared.ending.Finding.TheVariants.{Refused, Valid, BadRules, Rules, BadSchedule, BadLog, BadText}
+use Rattle.mv_commands.specs.declared.ending.LoadEnding.{LoadEnding}
+use Rattle.mv_commands.specs.declared.ending.LoadEnding.TheVariants.{Ended as LoadEnded, Refused as LoadRefused}
 use Rattle.mv_commands.specs.declared.ending.Ending.{Ending}
-use Rattle.mv_commands.specs.declared.ending.Ending.TheVariants.{BadWords, NoMemory, Told, NoFile, Found, Ran, LogFailed, LogNotMade, Audited, Shown, Assembled, NotWritten}
+use Rattle.mv_commands.specs.declared.ending.Ending.TheVariants.{BadWords, NoMemory, Told, NoFile, Found, Ran, LogFailed, LogNotMade, Audited, Shown, Assembled, NotWritten, Loaded}
 
 -- ## Names
 
@@ -107,6 +111,20 @@ missing_text path = codes "mv: file " ++ (path ++ line_feed)
 abbrev pub no_memory_text : List ℕ
 no_memory_text = codes "no memory" ++ line_feed
 
+-- a line of a name and a number
+abbrev pub figure_text : List ℕ → ℕ → List ℕ
+figure_text name number = name ++ (32 ∷ (decimal number ++ line_feed))
+
+-- the figures of a load's log, and that it is legal
+abbrev pub figures_text : Figures → List ℕ
+figures_text f =
+    figure_text (codes "calls") f.calls ++ (figure_text (codes "bytes") f.bytes ++ (figure_text (codes "forks") f.forks ++ (figure_text (codes "promotes") f.promotes
+    ++ (codes "stage " ++ (stage_name f.stage ++ (line_feed ++ (codes "audit yes" ++ line_feed)))))))
+
+abbrev pub load_text : LoadEnding → List ℕ
+load_text (LoadEnded h figures) = figures_text figures
+load_text (LoadRefused fault) = refusal_text (codes "old") fault
+
 -- the line that says an ending; of a log that is shown there is a line for each entry, and what the program says of itself is any
 -- text
 abbrev pub IsLine : Ending → List ℕ → Type 0
@@ -122,6 +140,7 @@ IsLine (Audited illegal) text = text ≡ audit_text illegal
 IsLine (Shown entries) text = text ≡ log_text entries.list
 IsLine (Assembled bytes) text = text ≡ codes "bytes " ++ (decimal bytes ++ line_feed)
 IsLine (NotWritten path) text = text ≡ missing_text path
+IsLine (Loaded loaded) text = text ≡ load_text loaded
 
 -- ## Statuses
 
@@ -138,6 +157,10 @@ abbrev pub audit_status : Option ℕ → ℕ
 audit_status None = 0
 audit_status (Some entry) = 8
 
+abbrev pub loaded_status : LoadEnding → ℕ
+loaded_status (LoadEnded h figures) = end_status h
+loaded_status (LoadRefused fault) = 4
+
 abbrev pub status_of : Ending → ℕ
 status_of BadWords = 2
 status_of NoMemory = 9
@@ -151,6 +174,7 @@ status_of (Audited illegal) = audit_status illegal
 status_of (Shown entries) = 0
 status_of (Assembled bytes) = 0
 status_of (NotWritten path) = 3
+status_of (Loaded loaded) = loaded_status loaded
 
 -- An ending shows by its status and its whole line; or by 7 where the sink failed, with a part of the line; or by 9 for
 -- want of memory, with nothing.

@@ -10,7 +10,7 @@ use Rattle.mv_inspect.specs.declared.auditing.Inspected.TheVariants as inspected
 use Rattle.mv_inspect.specs.declared.listing.Listed.{Listed}
 use Rattle.mv_inspect.specs.declared.listing.Listed.TheVariants as listed
 use Rattle.mv_commands.specs.Named.{IsAssembly, IsNoText}
-use Rattle.mv_commands.specs.Schedules.{schedule_of}
+use Rattle.mv_schedule.specs.Schedules.{schedule_of}
 use Rattle.mv_commands.specs.declared.assembling.Made.{Made}
 use Rattle.mv_commands.specs.declared.assembling.Made.TheVariants as made
 use Rattle.mv_commands.specs.declared.ending.Finding.{Finding}

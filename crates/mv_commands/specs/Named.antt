@@ -22,7 +22,7 @@ use Rattle.mv_transform.specs.Births.{started}
 use Rattle.mv_rehearse.specs.declared.beats.Beat.{Beat}
 use Rattle.mv_words.specs.declared.command.Command.{Command}
 use Rattle.mv_words.specs.declared.command.Command.TheVariants as ask
-use Rattle.mv_commands.specs.Schedules.{schedule_of}
+use Rattle.mv_schedule.specs.Schedules.{schedule_of}
 use Rattle.mv_commands.specs.declared.ending.Finding.{Finding}
 use Rattle.mv_commands.specs.declared.ending.Finding.TheVariants.{Refused, Valid, BadRules, Rules, BadSchedule, BadLog, BadText}
 
@@ -115,6 +115,7 @@ files_of (ask.Rules forward) = forward ∷ []
 files_of (ask.Audit log old updates) = audit_files log old updates
 files_of (ask.Show log) = log ∷ []
 files_of (ask.Assemble text to) = text ∷ []
+files_of (ask.Load connections) = []
 files_of ask.Help = []
 files_of ask.Version = []
 
@@ -131,6 +132,7 @@ FoundAt (ask.Audit log old updates) told (suc zero) text finding = IsRefusedBy t
 FoundAt (ask.Audit log old updates) told (suc (suc n)) text finding = ⊥
 FoundAt (ask.Show log) told n text finding = IsNoLog text finding
 FoundAt (ask.Assemble from to) told n text finding = IsNoText text finding
+FoundAt (ask.Load connections) told n text finding = ⊥
 FoundAt ask.Help told n text finding = ⊥
 FoundAt ask.Version told n text finding = ⊥
 
@@ -145,6 +147,7 @@ GoesOn (ask.Rules forward) told n text = ⊥
 GoesOn (ask.Audit log old updates) told n text = AuditGoes told log n text
 GoesOn (ask.Show log) told n text = HasSomeLog text
 GoesOn (ask.Assemble from to) told n text = IsText text
+GoesOn (ask.Load connections) told n text = ⊥
 GoesOn ask.Help told n text = ⊥
 GoesOn ask.Version told n text = ⊥
 

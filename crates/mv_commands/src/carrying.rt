@@ -1,9 +1,7 @@
 //! The program: the words, carried out.
 ghost use Rattle.std.specs.Prelude.{◌≡◌, List, ℕ, map, string_bytes};
 ghost use Rattle.mv_words.specs.Commands.{Says};
-ghost use Rattle.mv_outside.specs.Told.{told_more};
-ghost use Rattle.mv_history.specs.World.{outside};
-ghost use Rattle.mv_commands.specs.Causes.{HasCause, HasStatus, IsAny, IsExact, IsFeasible, IsLegal, IsOnOneThread, KeepsFiles, seen_of};
+ghost use Rattle.mv_commands.specs.Causes.{DidTheLog, HasCause, HasStatus, IsAny, IsExact, IsFeasible, IsLegal, IsOnOneThread, KeepsFiles, seen_of};
 ghost use Rattle.mv_commands.specs.Lines.{Shows};
 
 use crate::ending::Ending;
@@ -21,8 +19,8 @@ use std::thread::Threads;
 ///
 /// The headline, as far as it is built: the calls done by the kernel are exactly the log's, and the log is legal, so cut at
 /// its changes of leader it is runs of the leading version, and each discarded update shows its cause: for every schedule, and
-/// for two running threads in every interleaving. The status has its cause
-/// by the table of statuses, and what is printed is its line.
+/// for two running threads in every interleaving. A load's log is that of a kernel of its own, and the one that was handed in does
+/// nothing then. The status has its cause by the table of statuses, and what is printed is its line.
 ///
 /// Only `serve` starts a thread, waits, and calls the gate.
 pub fn program<
@@ -42,7 +40,7 @@ pub fn program<
     gate: &G,
     out: &mut S,
 ) -> Outcome<K, C, F>
-    ensures done { K.done result.kernel ≡ told_more (K.done kernel) (outside result.log.entries.list) }
+    ensures done { DidTheLog (map string_bytes words.now) (K.done kernel) (K.done result.kernel) result.log }
     ensures legal { IsLegal result.log }
     ensures files { KeepsFiles (map string_bytes words.now) (F.content files) (F.content result.files) }
     ensures status { HasStatus IsAny (map string_bytes words.now)
@@ -67,7 +65,7 @@ pub fn carry_out<K: Kernel, C: Console, F: Files, S: Sink>(
     files: F,
     out: &mut S,
 ) -> Outcome<K, C, F>
-    ensures done { K.done result.kernel ≡ told_more (K.done kernel) (outside result.log.entries.list) }
+    ensures done { DidTheLog (map string_bytes words.now) (K.done kernel) (K.done result.kernel) result.log }
     ensures legal { IsLegal result.log }
     ensures files { KeepsFiles (map string_bytes words.now) (F.content files) (F.content result.files) }
     ensures status { HasStatus IsOnOneThread (map string_bytes words.now)

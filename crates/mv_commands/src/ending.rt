@@ -2,19 +2,12 @@
 
 use mv_calls::Bytes;
 use mv_history::{Entries, How};
+use mv_load::Figures;
 use mv_record::RecordFault;
 use mv_rules::RuleFault;
+use mv_schedule::ScheduleFault;
 use mv_syntax::BornFault;
 use mv_text::TextFault;
-
-/// Why a schedule is refused.
-#[derive(Clone, Copy, PartialEq, Eq, Debug)]
-pub enum ScheduleFault {
-    /// The byte at this place, from 0, is no letter of a beat, no space and no line feed.
-    Letter { place: u64 },
-    /// The file has more than 16 MiB.
-    Limit,
-}
 
 /// What a named file is found to be, where no guest runs for it.
 #[derive(Clone, Copy, PartialEq, Eq, Debug)]
@@ -33,6 +26,15 @@ pub enum Finding {
     BadLog(RecordFault),
     /// It isn't an assembler text.
     BadText(TextFault),
+}
+
+/// What a load came to.
+#[derive(Clone, Copy, PartialEq, Eq, Debug)]
+pub enum LoadEnding {
+    /// The log of its rehearsal is legal and ended so, and these are its figures.
+    Ended { how: How, figures: Figures },
+    /// No guest starts of the load's own module.
+    Refused(BornFault),
 }
 
 /// What came of a command line. One row of the table of statuses each (docs/GUIDE.md, "Statuses").
@@ -62,4 +64,6 @@ pub enum Ending {
     NotWritten { path: Bytes },
     /// The entries of a log, to be shown.
     Shown { entries: Entries },
+    /// A load was rehearsed.
+    Loaded(LoadEnding),
 }

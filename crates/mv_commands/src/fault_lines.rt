@@ -2,10 +2,11 @@
 ghost use Rattle.std.specs.Prelude.{◌≡◌, [], ◌++◌, ◌∷◌, IfOk, OnOk, decimal};
 ghost use Rattle.mv_commands.specs.Lines.{record_kind_text, text_kind_text, fault_text, numbers_text, refusal_text, start_fault_text, schedule_fault_text, finding_text};
 
-use crate::ending::{Finding, ScheduleFault};
+use crate::ending::Finding;
 use itoa::Buffer;
 use mv_calls::{Bytes, OutOfMemory};
 use mv_record::RecordKind;
+use mv_schedule::ScheduleFault;
 use mv_show::{read_kind_name, rule_kind_name, trap_name, valid_kind_name};
 use mv_syntax::{BornFault, StartFault};
 use mv_text::TextKind;
@@ -106,7 +107,7 @@ fn start_fault_line(alloc: Global, path: &Bytes, fault: StartFault) -> Result<Ve
 }
 
 /// The line of a module of which no guest starts, or is born.
-fn refusal_line(alloc: Global, path: &Bytes, fault: BornFault) -> Result<Vec<u8>, OutOfMemory>
+pub fn refusal_line(alloc: Global, path: &Bytes, fault: BornFault) -> Result<Vec<u8>, OutOfMemory>
     ensures { IfOk result (λ line. line.items ≡ refusal_text path.now fault) }
 {
     match fault {

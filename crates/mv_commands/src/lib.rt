@@ -8,9 +8,11 @@ mod fault_lines;
 mod judging;
 mod keeping;
 mod loading;
+mod loads;
 mod running;
 mod showing;
 
 pub use carrying::{carry_out, program};
-pub use ending::{Ending, Finding, ScheduleFault};
+pub use ending::{Ending, Finding, LoadEnding};
 pub use mv_rehearse::Outcome;
+pub use mv_schedule::ScheduleFault;

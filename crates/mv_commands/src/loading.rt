@@ -1,14 +1,13 @@
 //! The files of a guest and of its schedule.
-ghost use Rattle.std.specs.Prelude.{◌≡◌, ◌≤◌, ◌∷◌, ◌||◌, ◌++◌, not, is_some, option_to_list, IfOk, OnOk, Ok};
+ghost use Rattle.std.specs.Prelude.{◌≡◌, ◌≤◌, ◌∷◌, IfOk, Ok};
 ghost use Rattle.mv_transform.specs.Births.{behaviour, started};
 ghost use Rattle.mv_commands.specs.Loading.{IsLoaded, IsStarted, IsPlanned, IsPlannedOf};
-ghost use Rattle.mv_commands.specs.Schedules.{beat_of, beats_in, first_other, is_blank};
 
-use crate::ending::ScheduleFault;
 use mv_calls::{Bytes, Or, OutOfMemory, Texts};
 use mv_history::{Log, Start};
 use mv_outside::{Files, Found};
 use mv_rehearse::Beat;
+use mv_schedule::{ScheduleFault, read_schedule};
 use mv_syntax::BornFault;
 use mv_transform::Guest;
 use mv_version::Version;
@@ -111,69 +110,9 @@ pub fn schedule_at<F: Files>(alloc: Global, path: &Bytes, files: &mut F) -> Plan
 fn schedule_in(alloc: Global, text: &[u8]) -> Planned
     ensures { IsPlannedOf text.now result }
 {
-    if text.len() > FILE_LIMIT {
-        return Planned::Refused(ScheduleFault::Limit);
-    }
-    if let Some(place) = other_byte(text) {
-        return Planned::Refused(ScheduleFault::Letter { place });
-    }
-    match beats_of(alloc, text) {
+    match read_schedule(alloc, text) {
         Ok(beats) => Planned::Beats(beats),
-        Err(_) => Planned::NoMemory,
+        Err(Or::Fault(fault)) => Planned::Refused(fault),
+        Err(Or::OutOfMemory) => Planned::NoMemory,
     }
-}
-
-/// The place of the first byte that is neither a beat's letter nor a blank.
-#[tactic(auto, using(crate::proofs::Letters::other_here, crate::proofs::Letters::none_here, crate::proofs::Letters::none_at_end))]
-fn other_byte(text: &[u8]) -> Option<u64>
-    ensures { result ≡ first_other 0 text.now }
-{
-    for place in 0..text.len() {
-        if is_other(text[place]) {
-            return Some(place as u64);
-        }
-    }
-    None
-}
-
-/// Whether a byte is neither a beat's letter nor a blank.
-fn is_other(byte: u8) -> bool
-    ensures { result ≡ not (is_some (beat_of byte) || is_blank byte) }
-{
-    beat_in(byte).is_none() && byte != b' ' && byte != b'\n'
-}
-
-/// The beat of a letter.
-fn beat_in(byte: u8) -> Option<Beat>
-    ensures { result ≡ beat_of byte }
-{
-    match byte {
-        b'L' => Some(Beat::Lead),
-        b'C' => Some(Beat::Carry),
-        b'F' => Some(Beat::Follow),
-        b'J' => Some(Beat::Judge),
-        _ => None,
-    }
-}
-
-/// The beats of a text.
-#[tactic(auto, using(crate::proofs::Letters::beats_step, crate::proofs::Letters::beats_done))]
-fn beats_of(alloc: Global, text: &[u8]) -> Result<Vec<Beat>, OutOfMemory>
-    ensures { IfOk result (λ beats. beats.items ≡ beats_in text.now) }
-{
-    let mut beats = Vec::new(alloc);
-    for place in 0..text.len() {
-        add_beat(&mut beats, text[place])?;
-    }
-    Ok(beats)
-}
-
-/// Adds the beat of a letter, where it is one's.
-fn add_beat(beats: &mut Vec<Beat>, byte: u8) -> Result<(), OutOfMemory>
-    ensures { OnOk result (beats.new.items ≡ beats.old.items ++ option_to_list (beat_of byte)) }
-{
-    if let Some(beat) = beat_in(byte) {
-        beats.push(beat)?;
-    }
-    Ok(())
 }

@@ -12,6 +12,7 @@ use crate::ending::{Ending, Finding};
 use crate::judging::{Judged, module_at, rules_at};
 use crate::keeping::{how_of, keep_log};
 use crate::loading::{Loaded, Planned, guest_at, schedule_at};
+use crate::loads::load_asked;
 use mv_calls::{Bytes, Texts};
 use mv_history::Log;
 use mv_host::serve;
@@ -316,6 +317,7 @@ pub fn did<K: Kernel, C: Console, F: Files>(
         Command::Assemble { text, to } => {
             assemble_asked(alloc, text, to, kernel, console, files)
         }
+        Command::Load { connections } => load_asked(alloc, connections, kernel, console, files),
         Command::Show { log } => {
             let listed = log_at(alloc, &log, &mut files);
             not_run(alloc, show_ending(log, listed), kernel, console, files)

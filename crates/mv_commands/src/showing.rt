@@ -1,14 +1,15 @@
 //! The one line that a command prints, and its status.
-ghost use Rattle.std.specs.Prelude.{◌≡◌, ◌++◌, codes, decimal, IfOk, List, ℕ};
-ghost use Rattle.mv_rehearse.specs.Runs.{end_status};
-ghost use Rattle.mv_commands.specs.Lines.{IsLine, Shows, audit_text, line_feed, end_text, finding_status, missing_text, status_of};
+ghost use Rattle.std.specs.Prelude.{◌≡◌, ◌++◌, codes, decimal, IfOk, List, OnOk, ℕ};
+ghost use Rattle.mv_commands.specs.Lines.{IsLine, Shows, audit_text, line_feed, end_text, figure_text, figures_text, finding_status, load_text, loaded_status, missing_text, status_of};
 
-use crate::ending::{Ending, Finding};
-use crate::fault_lines::{add_number, finding_line};
+use crate::ending::{Ending, Finding, LoadEnding};
+use crate::fault_lines::{add_number, finding_line, refusal_line};
 use mv_calls::{Bytes, Or, OutOfMemory};
 use mv_history::How;
+use mv_load::Figures;
 use mv_outside::Sink;
-use mv_show::{log_lines, trap_name};
+use mv_rehearse::status_by;
+use mv_show::{log_lines, stage_name, trap_name};
 use std::alloc::Global;
 
 /// The status where a call of the sink failed.
@@ -26,6 +27,7 @@ mv rules FWD\n\
 mv audit LOG OLD [M FWD REV ..]\n\
 mv show LOG\n\
 mv assemble TEXT OUT\n\
+mv load N\n\
 run, rehearse and serve: [--listen ADDRESS] [--console ADDRESS]\n";
 
 /// The line of a file that is missing.
@@ -88,6 +90,45 @@ fn bytes_line(alloc: Global, bytes: u64) -> Result<Vec<u8>, OutOfMemory>
     Ok(line)
 }
 
+/// Adds a line of a name and a number.
+fn add_figure(line: &mut Vec<u8>, name: &[u8], number: u64) -> Result<(), OutOfMemory>
+    ensures { OnOk result (line.new.items ≡ line.old.items ++ figure_text name.now number) }
+{
+    line.extend_from_slice(name)?;
+    line.push(b' ')?;
+    add_number(line, number)?;
+    line.push(b'\n')?;
+    Ok(())
+}
+
+/// The lines of a log's figures, and that the log is legal.
+fn figure_lines(alloc: Global, figures: Figures) -> Result<Vec<u8>, OutOfMemory>
+    ensures { IfOk result (λ lines. lines.items ≡ figures_text figures) }
+{
+    let mut lines = Vec::new(alloc);
+    add_figure(&mut lines, b"calls", figures.calls)?;
+    add_figure(&mut lines, b"bytes", figures.bytes)?;
+    add_figure(&mut lines, b"forks", figures.forks)?;
+    add_figure(&mut lines, b"promotes", figures.promotes)?;
+    lines.extend_from_slice(b"stage ")?;
+    lines.extend_from_slice(stage_name(figures.stage).as_bytes())?;
+    lines.extend_from_slice(b"\naudit yes\n")?;
+    Ok(lines)
+}
+
+/// The lines of a load.
+fn load_lines(alloc: Global, loaded: LoadEnding) -> Result<Vec<u8>, OutOfMemory>
+    ensures { IfOk result (λ lines. lines.items ≡ load_text loaded) }
+{
+    match loaded {
+        LoadEnding::Ended { figures, .. } => figure_lines(alloc, figures),
+        LoadEnding::Refused(fault) => {
+            let path = Bytes::from_slice(alloc, b"old")?;
+            refusal_line(alloc, &path, fault)
+        }
+    }
+}
+
 /// The line that says an ending.
 fn line(alloc: Global, ending: &Ending) -> Result<Vec<u8>, OutOfMemory>
     ensures { IfOk result (λ line. IsLine ending.now line.items) }
@@ -105,6 +146,7 @@ fn line(alloc: Global, ending: &Ending) -> Result<Vec<u8>, OutOfMemory>
         Ending::Shown { entries } => log_lines(alloc, entries.slice()),
         Ending::Assembled { bytes } => bytes_line(alloc, *bytes),
         Ending::NotWritten { path } => missing_line(alloc, path),
+        Ending::Loaded(loaded) => load_lines(alloc, *loaded),
     }
 }
 
@@ -122,17 +164,13 @@ fn found_status(finding: Finding) -> u8
     }
 }
 
-/// The status of a run that ended so.
-fn ran_status(how: How) -> u8
-    ensures { result ≡ end_status how }
+/// The status of a load.
+fn load_status(loaded: LoadEnding) -> u8
+    ensures { result ≡ loaded_status loaded }
 {
-    match how {
-        How::Ended(0) | How::Halted | How::Cut => 0,
-        How::Ended(_) => 1,
-        How::Trapped(_) => 5,
-        How::KernelFault => 6,
-        How::LogLimit => 10,
-        How::Memory => NO_MEMORY,
+    match loaded {
+        LoadEnding::Ended { how, .. } => status_by(how),
+        LoadEnding::Refused(_) => 4,
     }
 }
 
@@ -146,7 +184,7 @@ fn status(ending: &Ending) -> u8
         Ending::Told => 0,
         Ending::NoFile { .. } => 3,
         Ending::Found { finding, .. } => found_status(*finding),
-        Ending::Ran(how) => ran_status(*how),
+        Ending::Ran(how) => status_by(*how),
         Ending::LogFailed { .. } => 3,
         Ending::LogNotMade(_) => NO_MEMORY,
         Ending::Audited { illegal: None } => 0,
@@ -154,6 +192,7 @@ fn status(ending: &Ending) -> u8
         Ending::Shown { .. } => 0,
         Ending::Assembled { .. } => 0,
         Ending::NotWritten { .. } => 3,
+        Ending::Loaded(loaded) => load_status(*loaded),
     }
 }
 

@@ -1,5 +1,6 @@
-use Rattle.std.proofs.Common.{◌∙◌, refl, ap, rules}
+use Rattle.std.proofs.Common.{◌∙◌, refl, ap, rules, subst}
 use Rattle.mv_words.specs.declared.command.Command.TheVariants as ask
+use Rattle.mv_commands.specs.Causes.{IsFeasible}
 use Rattle.mv_commands.specs.Named.{SaysOfModule, SaysOfRules}
 use Rattle.mv_commands.proofs.Comings.{audit_comes, judged_comes, same_cause, show_comes}
 use Rattle.mv_commands.proofs.running.did.Goals as goal
@@ -25,3 +26,9 @@ returns-in-Run g c = same_cause _ _ _ _ _ _ c.in-Run.is c.run_asked.ensures
 
 pub returns-in-Rehearse : goal.returns-in-Rehearse
 returns-in-Rehearse g c = same_cause _ _ _ _ _ _ c.in-Rehearse.is c.rehearse_asked.ensures
+
+pub returns-in-Load : goal.returns-in-Load
+returns-in-Load g c = same_cause _ _ _ _ _ _ c.in-Load.is c.load_asked.ensures
+
+pub load_asked-requires : goal.load_asked-requires
+load_asked-requires g c = subst IsFeasible c.in-Load.is c.requires.feasible

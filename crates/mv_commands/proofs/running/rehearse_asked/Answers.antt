@@ -1,7 +1,7 @@
 use Rattle.std.proofs.Common.{◌≡◌, ◌∙◌, List, Option, refl, sym, ap, subst, arith, rules, Ok}
 use Rattle.mv_outside.specs.Files.{FileMap}
 use Rattle.mv_rehearse.specs.declared.beats.Beat.{Beat}
-use Rattle.mv_commands.specs.Schedules.{schedule_of}
+use Rattle.mv_schedule.specs.Schedules.{schedule_of}
 use Rattle.mv_inspect.specs.Told.{StandsAt}
 use Rattle.mv_words.specs.declared.command.Command.TheVariants as ask
 use Rattle.mv_rehearse.specs.Runs.{began_with}
