@@ -1,17 +1,14 @@
 //! The first demonstration guest, served over objects in memory: by two threads, each of which is held until the other has come so
 //! far, and where one of the objects fails.
 
-use mv_calls::{Bytes, Call, Item, OutOfMemory, Reply, Room, Texts};
+use crate::fixtures::{Failing, NOTHING, console, files, kernel, module_of, texts};
+use mv_calls::{Call, Item, OutOfMemory, Reply, Room};
 use mv_commands::program;
 use mv_history::{Entry, Mark};
-use mv_kernmem::{Conn, Conns, MemKernel, Numbers, Script};
+use mv_kernmem::MemKernel;
 use mv_load::{Demo, guest_text};
-use mv_outside::{
-    Failed, FileAt, FreeGate, Gate, Kernel, MemConsole, MemFiles, VecSink, paths_differ,
-};
-use mv_text::assemble;
-use mv_writer::write_module;
-use std::alloc::{AllocError, Global};
+use mv_outside::{Failed, FreeGate, Gate, Kernel, MemFiles, VecSink};
+use std::alloc::Global;
 use std::process::Abort;
 use std::sync::atomic::{AtomicU64, Ordering};
 use std::test::Fail;
@@ -111,69 +108,10 @@ impl<'a, R: Clock, K: Kernel> Kernel for Held<'a, R, K> {
     }
 }
 
-/// The number, where there is one.
-fn list(alloc: Global, number: Option<u64>) -> Result<Vec<u64>, AllocError> {
-    let mut numbers = Vec::new(alloc);
-    if let Some(number) = number {
-        numbers.push(number)?;
-    }
-    Ok(numbers)
-}
-
-/// One connection, which sends `a` and ends. The call of this number fails.
-fn kernel(alloc: Global, fail: Option<u64>) -> Result<MemKernel, Fail> {
-    let mut pieces = Vec::new(alloc);
-    pieces.push(Bytes::from_slice(alloc, b"a")?)?;
-    let mut conns = Vec::new(alloc);
-    conns.push(Conn {
-        pieces: Texts::from_vec(pieces),
-        ends: true,
-    })?;
-    let script = Script {
-        conns: Conns::from_vec(conns),
-        clock: Numbers::from_vec(Vec::new(alloc)),
-        random: Bytes::from_vec(Vec::new(alloc)),
-        fail: Numbers::from_vec(list(alloc, fail)?),
-    };
-    Ok(MemKernel::new(alloc, script)?)
-}
-
-/// The operator says these lines at the looks of these numbers, from 0. The look and the reply of these numbers fail.
-fn console(
-    alloc: Global,
-    orders: &[(usize, &str)],
-    look: Option<u64>,
-    reply: Option<u64>,
-) -> Result<MemConsole, Fail> {
-    let mut lines = Vec::new(alloc);
-    for (look, line) in orders {
-        for _ in lines.len()..*look {
-            lines.push(None)?;
-        }
-        lines.push(Some(Bytes::from_slice(alloc, line.as_bytes())?))?;
-    }
-    Ok(MemConsole::new(alloc, lines, list(alloc, look)?, list(alloc, reply)?))
-}
-
 /// The one file, `old`: the guest. The read of this number fails.
-fn files(rt: &impl Abort, alloc: Global, read: Option<u64>) -> Result<MemFiles, Fail> {
-    let module = assemble(alloc, guest_text(Demo::Old))?;
-    let mut all = Vec::new(alloc);
-    all.push(FileAt {
-        path: Bytes::from_slice(alloc, b"old")?,
-        bytes: Bytes::from_vec(write_module(alloc, &module)?),
-    })?;
-    assert!(rt; paths_differ(all.as_slice()));
-    Ok(MemFiles::new(all, list(alloc, read)?, Vec::new(alloc)))
-}
-
-/// The words `serve old`.
-fn words(alloc: Global) -> Result<Vec<String>, Fail> {
-    let mut all = Vec::new(alloc);
-    for word in ["serve", "old"] {
-        all.push(String::from_str(alloc, word)?)?;
-    }
-    Ok(all)
+fn old_file(rt: &impl Abort, alloc: Global, read: Option<u64>) -> Result<MemFiles, Fail> {
+    let old = module_of(alloc, guest_text(Demo::Old))?;
+    files(rt, alloc, &[("old", old.as_slice())], read)
 }
 
 /// Whether this is the call of this number, from 0, that the guest makes over the one connection, with its reply.
@@ -231,15 +169,15 @@ fn each_activity_of_the_program_waits_for_the_other(rt: HostRuntime) -> Result<(
         step_of_call: u64::MAX,
     };
     let orders = [(0, "update old none none"), (2, "promote"), (4, "finish")];
-    let said = words(alloc)?;
+    let said = texts(alloc, &["serve", "old"])?;
     let mut sink = VecSink::new(alloc, Vec::new(alloc));
     let came = program(
         &rt,
         alloc,
         said.as_slice(),
-        kernel(alloc, None)?,
+        kernel(alloc, &[b"a"], None)?,
         console(alloc, &orders, None, None)?,
-        files(&rt, alloc, None)?,
+        old_file(&rt, alloc, None)?,
         &gate,
         &mut sink,
     );
@@ -263,14 +201,14 @@ fn the_follower_steps_while_the_program_does_a_call(rt: HostRuntime) -> Result<(
         step: (u64::MAX, 0),
         step_of_call: 0,
     };
-    let inner = kernel(alloc, None)?;
+    let inner = kernel(alloc, &[b"a"], None)?;
     let held = Held {
         rt: &rt,
         counters: &counters,
         steps: 3,
         inner,
     };
-    let said = words(alloc)?;
+    let said = texts(alloc, &["serve", "old"])?;
     let mut sink = VecSink::new(alloc, Vec::new(alloc));
     let came = program(
         &rt,
@@ -278,7 +216,7 @@ fn the_follower_steps_while_the_program_does_a_call(rt: HostRuntime) -> Result<(
         said.as_slice(),
         held,
         console(alloc, &[(0, "update old none none")], None, None)?,
-        files(&rt, alloc, None)?,
+        old_file(&rt, alloc, None)?,
         &gate,
         &mut sink,
     );
@@ -298,22 +236,6 @@ const UPDATED: &[u8] = b"{\"ok\":\"update\",\"update\":1}\n";
 
 /// What he is told where a file of the update can't be read.
 const UNREAD: &[u8] = b"{\"no\":\"failed\",\"path\":\"old\"}\n";
-
-/// The numbers of a kernel's call, a look, a reply and a read that fail.
-#[derive(Clone, Copy)]
-struct Failing {
-    call: Option<u64>,
-    look: Option<u64>,
-    reply: Option<u64>,
-    read: Option<u64>,
-}
-
-const NOTHING: Failing = Failing {
-    call: None,
-    look: None,
-    reply: None,
-    read: None,
-};
 
 #[test]
 fn failures_outside_show_where_the_program_serves(rt: HostRuntime) -> Result<(), Fail> {
@@ -347,15 +269,15 @@ fn failures_outside_show_where_the_program_serves(rt: HostRuntime) -> Result<(),
         (read, one, 0, 6, (0, 0), UNREAD),
     ];
     for (fails, orders, status, calls, made, told) in rows {
-        let said = words(alloc)?;
+        let said = texts(alloc, &["serve", "old"])?;
         let mut sink = VecSink::new(alloc, Vec::new(alloc));
         let came = program(
             &rt,
             alloc,
             said.as_slice(),
-            kernel(alloc, fails.call)?,
+            kernel(alloc, &[b"a"], fails.call)?,
             console(alloc, orders, fails.look, fails.reply)?,
-            files(&rt, alloc, fails.read)?,
+            old_file(&rt, alloc, fails.read)?,
             &FreeGate::new(),
             &mut sink,
         );

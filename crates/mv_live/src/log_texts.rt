@@ -47,6 +47,9 @@ fn order_text(alloc: Global, text: &str, reply: &OrderReply) -> Result<String, F
         OrderReply::Unknown { text: said } => {
             format!(in alloc; "order {text} = unknown {}", plain(said))?
         }
+        OrderReply::Failed { path } => {
+            format!(in alloc; "order {text} = failed {}", plain(path))?
+        }
         OrderReply::Stage { now } => format!(in alloc; "order {text} = not in {now:?}")?,
         _ => format!(in alloc; "order {text} = another answer")?,
     })

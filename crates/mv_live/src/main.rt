@@ -3,6 +3,8 @@
 
 mod disk_files;
 #[cfg(test)]
+mod fixtures;
+#[cfg(test)]
 mod gates_tests;
 #[cfg(test)]
 mod log_texts;

@@ -1,12 +1,10 @@
 //! Polls and the sizes of the arguments, as a guest finds them over the scripted kernel.
 
-use crate::tests::{console, files, kernel, texts};
+use crate::fixtures::{console, files, kernel, module_of, texts};
 use mv_calls::{Call, Happened, Item, Reply, Sub};
 use mv_commands::carry_out;
 use mv_kernmem::MemKernel;
 use mv_outside::VecSink;
-use mv_text::assemble;
-use mv_writer::write_module;
 use std::alloc::Global;
 use std::process::Abort;
 use std::test::Fail;
@@ -49,10 +47,10 @@ i32.const 120\ni32.load 2 0\ni32.const 8\ni32.shl\ni32.add\ni32.const 124\ni32.l
 fn run_of(rt: &impl Abort, alloc: Global, body: &str) -> Result<(Vec<u8>, MemKernel), Fail> {
     let mut text = String::from_str(alloc, HEAD)?;
     text.push_str(body)?;
-    let module = write_module(alloc, &assemble(alloc, text.as_bytes())?)?;
+    let module = module_of(alloc, text.as_bytes())?;
     let said = texts(alloc, &["run", "g", "a", "bc"])?;
     let files = files(rt, alloc, &[("g", module.as_slice())], None)?;
-    let (kernel, console) = (kernel(alloc, &[], None)?, console(alloc, &[])?);
+    let (kernel, console) = (kernel(alloc, &[], None)?, console(alloc, &[], None, None)?);
     let mut sink = VecSink::new(alloc, Vec::new(alloc));
     let came = carry_out(alloc, said.as_slice(), kernel, console, files, &mut sink);
     Ok((Vec::from_slice(alloc, sink.bytes())?, came.kernel))

@@ -1,12 +1,12 @@
 //! Rehearsals of the demonstration guests (docs/FORMATS.md, "Demonstration guests"), over objects in memory: each log, entry by entry.
+ghost use Rattle.std.specs.Prelude.{◌≤◌, length};
 
+use crate::fixtures::{Failing, NOTHING, console, files, kernel, list, module_of, texts};
 use crate::log_texts::{done_text, log_text};
-use crate::tests::{console, files, kernel, texts};
 use mv_commands::carry_out;
+use mv_history::{Entry, How, Mark};
 use mv_load::{Demo, guest_text};
 use mv_outside::{MemFiles, VecSink};
-use mv_text::assemble;
-use mv_writer::write_module;
 use std::alloc::Global;
 use std::process::Abort;
 use std::test::Fail;
@@ -35,6 +35,7 @@ struct Row<'a> {
     pieces: &'a [&'a [u8]],
     /// The files of the accepted updates, as `audit` takes them.
     updates: &'a [&'a str],
+    fails: Failing,
 }
 
 /// The old version with these orders and the piece `a`, over as many beats as are wanted.
@@ -58,6 +59,7 @@ fn planned<'a>(
         orders,
         pieces: &[b"a"],
         updates,
+        fails: NOTHING,
     }
 }
 
@@ -71,6 +73,7 @@ fn trapping<'a>(old: Demo, orders: &'a [(usize, &'a str)], updates: &'a [&'a str
         orders,
         pieces: &[b"a", b"!"],
         updates,
+        fails: NOTHING,
     }
 }
 
@@ -87,23 +90,36 @@ struct Left {
     files: MemFiles,
 }
 
-fn module_of(alloc: Global, text: &[u8]) -> Result<Vec<u8>, Fail> {
-    let module = assemble(alloc, text)?;
-    Ok(write_module(alloc, &module)?)
+/// Where these bytes begin in a text first.
+fn place_of(text: &[u8], bytes: &[u8]) -> usize
+    ensures { result ≤ length text.now }
+{
+    for at in 0..text.len() {
+        if text[at..].starts_with(bytes) {
+            return at;
+        }
+    }
+    text.len()
 }
 
 /// The new version with another body of its transformer.
 fn transformed_by(alloc: Global, body: &str) -> Result<Vec<u8>, Fail> {
     let text = guest_text(Demo::New);
     let mut changed = Vec::new(alloc);
-    for at in 0..text.len() {
-        if text[at..].starts_with(b";; live_transform") {
-            changed.extend_from_slice(&text[..at])?;
-        }
-    }
+    changed.extend_from_slice(&text[..place_of(text, b";; live_transform")])?;
     changed.extend_from_slice(b"func 5\n")?;
     changed.extend_from_slice(body.as_bytes())?;
     changed.extend_from_slice(b"endfunc\n")?;
+    module_of(alloc, changed.as_slice())
+}
+
+/// The new version, which traps once it leads or follows.
+fn trapping_at_once(alloc: Global) -> Result<Vec<u8>, Fail> {
+    let text = guest_text(Demo::New);
+    let mut changed = Vec::new(alloc);
+    changed.extend_from_slice(&text[..place_of(text, b";; live_resume")])?;
+    changed.extend_from_slice(b"func 0\nunreachable\nendfunc\n")?;
+    changed.extend_from_slice(&text[place_of(text, b";; live_transform")..])?;
     module_of(alloc, changed.as_slice())
 }
 
@@ -124,6 +140,7 @@ fn shelf(rt: &impl Abort, alloc: Global, row: Row<'_>) -> Result<MemFiles, Fail>
         "i32.const 4\ni32.const 1040\ni32.const 1\ni32.const 1048\ncall 5\n",
     )?;
     let traps = transformed_by(alloc, "unreachable\n")?;
+    let stuck = trapping_at_once(alloc)?;
     let asks = transformed_by(alloc, "i32.const 1\ncall 2\ndrop\ni32.const 0\n")?;
     let named = [
         ("plan", plan.as_slice()),
@@ -134,11 +151,12 @@ fn shelf(rt: &impl Abort, alloc: Global, row: Row<'_>) -> Result<MemFiles, Fail>
         ("writes", writes.as_slice()),
         ("traps", traps.as_slice()),
         ("asks", asks.as_slice()),
+        ("stuck", stuck.as_slice()),
         ("fwd", FORWARD),
         ("rev", REVERSE),
         ("wordless", WORDLESS),
     ];
-    files(rt, alloc, &named, None)
+    files(rt, alloc, &named, row.fails.read)
 }
 
 /// Carries out the first words and the second ones behind them.
@@ -153,9 +171,9 @@ fn carried(
     for word in more {
         said.push(String::from_str(alloc, word)?)?;
     }
-    let kernel = kernel(alloc, row.pieces, None)?;
-    let console = console(alloc, row.orders)?;
-    let mut sink = VecSink::new(alloc, Vec::new(alloc));
+    let kernel = kernel(alloc, row.pieces, row.fails.call)?;
+    let console = console(alloc, row.orders, row.fails.look, row.fails.reply)?;
+    let mut sink = VecSink::new(alloc, list(alloc, row.fails.print)?);
     let came = carry_out(alloc, said.as_slice(), kernel, console, files, &mut sink);
     Ok(Left {
         status: came.status,
@@ -173,7 +191,11 @@ fn rehearsed(rt: &impl Abort, alloc: Global, row: Row<'_>) -> Result<Left, Fail>
     let words = ["rehearse", "old", "plan", "--log", "kept"];
     let left = carried(alloc, &words, row.options, row, files)?;
     let audit = ["audit", "kept", "old"];
-    let audited = carried(alloc, &audit, row.updates, row, left.files)?;
+    let well = Row {
+        fails: NOTHING,
+        ..row
+    };
+    let audited = carried(alloc, &audit, row.updates, well, left.files)?;
     assert!(rt; audited.status == 0 && audited.printed.as_slice() == b"yes\n".as_slice());
     Ok(Left {
         files: audited.files,
@@ -317,6 +339,179 @@ read 4 64 = bytes !|write 4 OK\n = count 3|read 4 64 = bytes |close 4 = done|acc
 point|accept 3 0 = fd 4|read 4 64 = bytes a|write 4 OK\n = count 3|\
 point|read 4 64 = bytes !|hand Trap(Unreachable)|over|write 4 +OK\n = count 4|";
     expect(&rt, alloc, row, begins, QUIET, ENDED)?;
+    Ok(())
+}
+
+#[test]
+fn a_version_that_traps_once_it_leads_is_rolled_back(rt: HostRuntime) -> Result<(), Fail> {
+    let led =
+        "order update stuck none none = Update 1|fork 1|order promote = Promote 0|hand Promote|promote|";
+    let updates = ["stuck", "none", "none"];
+    let orders = [(0, "update stuck none none"), (2, "promote")];
+    let begins = format!(in rt.alloc(); "{led}hand Trap(Unreachable)|back|")?;
+    let row = ordered(&orders, &updates);
+    expect(&rt, rt.alloc(), row, begins.as_str(), ALONE, ENDED)?;
+    // Once the old version is finished nobody is left to lead.
+    let orders = [(0, "update stuck none none"), (2, "promote"), (4, "finish")];
+    let ends = "order finish = Finish 0|finish|end Trapped(Unreachable)|";
+    let row = ordered(&orders, &updates);
+    expect(
+        &rt,
+        rt.alloc(),
+        row,
+        led,
+        ends,
+        (5, b"trapped Unreachable\n"),
+    )?;
+    Ok(())
+}
+
+/// An update that makes equal calls, leads and is finished.
+const FINISHES: &str =
+    "order update old none none = Update 1|fork 1|order promote = Promote 0|hand Promote|promote|\
+order finish = Finish 0|finish|";
+
+#[test]
+fn failures_outside_show_where_a_schedule_is_rehearsed(rt: HostRuntime) -> Result<(), Fail> {
+    let alloc = rt.alloc();
+    let orders = [(0, "update old none none"), (2, "promote"), (4, "finish")];
+    let updates = ["old", "none", "none"];
+    let call = Failing {
+        call: Some(2),
+        ..NOTHING
+    };
+    let look = Failing {
+        look: Some(2),
+        ..NOTHING
+    };
+    let reply = Failing {
+        reply: Some(0),
+        ..NOTHING
+    };
+    let print = Failing {
+        print: Some(0),
+        ..NOTHING
+    };
+    let followed = "order update old none none = Update 1|fork 1|";
+    let unmade = "point|accept 3 0 = fd 4|read 4 64 = bytes a|end KernelFault|";
+    let rows: [(Failing, &str, &str, (u8, &[u8])); 4] = [
+        // The write isn't done, and the run ends.
+        (call, FINISHES, unmade, (6, b"kernel fault\n")),
+        // The look that would have had `promote`, or the first reply: no order comes any more.
+        (look, followed, ALONE, ENDED),
+        (reply, followed, ALONE, ENDED),
+        // Half of the line was printed.
+        (print, FINISHES, ALONE, (7, b"ende")),
+    ];
+    for (fails, begins, ends, shown) in rows {
+        let row = Row {
+            fails,
+            ..ordered(&orders, &updates)
+        };
+        let left = expect(&rt, alloc, row, begins, ends, shown)?;
+        // Of a reply that failed a part is told at most.
+        let told = b"{\"ok\":\"update\",\"update\":1}\n".as_slice();
+        let part = told.starts_with(left.said.as_slice()) && left.said.len() < told.len();
+        assert!(rt; part == fails.reply.is_some());
+    }
+    // The module of the update, which is read behind OLD and SCHEDULE.
+    let row = Row {
+        fails: Failing {
+            read: Some(2),
+            ..NOTHING
+        },
+        ..ordered(&[(0, "update old none none")], &[])
+    };
+    let left = expect(
+        &rt,
+        alloc,
+        row,
+        "order update old none none = failed old|",
+        ALONE,
+        ENDED,
+    )?;
+    assert!(rt; left.said.as_slice() == b"{\"no\":\"failed\",\"path\":\"old\"}\n".as_slice());
+    // OLD itself.
+    let row = Row {
+        fails: Failing {
+            read: Some(0),
+            ..NOTHING
+        },
+        ..ordered(&[], &[])
+    };
+    let left = carried(
+        alloc,
+        &["rehearse", "old", "plan"],
+        &[],
+        row,
+        shelf(&rt, alloc, row)?,
+    )?;
+    assert!(rt; left.status == 3 && left.printed.as_slice() == b"mv: file old\n".as_slice());
+    Ok(())
+}
+
+/// A guest that stands at update points for ever.
+const WAITING: &[u8] =
+    b"type ->\ntype -> i32\nimport \"live\" \"point\" 1\nexport \"_start\" func 1\n\
+func 0\nloop\ncall 0\ndrop\nbr 0\nend\nendfunc\n";
+
+/// How many of the entries are update points.
+fn points(entries: &[Entry]) -> u64 {
+    let mut count: u64 = 0;
+    for entry in entries {
+        if matches!(entry, Entry::Point) {
+            count = count.saturating_add(1);
+        }
+    }
+    count
+}
+
+/// Whether the entry ends a log that has no place left.
+fn is_limit(entry: &Entry) -> bool {
+    match entry {
+        Entry::Mark(Mark::End { how }) => *how == How::LogLimit,
+        _ => false,
+    }
+}
+
+/// Whether a log ends for want of a place in it.
+fn is_full(entries: &[Entry]) -> bool {
+    match entries.last() {
+        Some(last) => is_limit(last),
+        None => false,
+    }
+}
+
+#[test]
+fn a_full_log_ends_its_run(rt: HostRuntime) -> Result<(), Fail> {
+    let alloc = rt.alloc();
+    let guest = module_of(alloc, WAITING)?;
+    let files = files(&rt, alloc, &[("waiting", guest.as_slice())], None)?;
+    let said = texts(alloc, &["run", "waiting"])?;
+    let (kernel, console) = (kernel(alloc, &[], None)?, console(alloc, &[], None, None)?);
+    let mut sink = VecSink::new(alloc, Vec::new(alloc));
+    let came = carry_out(alloc, said.as_slice(), kernel, console, files, &mut sink);
+    assert!(rt; came.status == 10 && sink.bytes() == b"log limit\n".as_slice());
+    let entries = came.log.entries.slice();
+    assert!(rt; entries.len() == 999_991 && points(entries) == 999_990 && is_full(entries));
+    Ok(())
+}
+
+#[test]
+fn a_load_is_rehearsed_by_its_number(rt: HostRuntime) -> Result<(), Fail> {
+    let row = ordered(&[], &[]);
+    let left = carried(
+        rt.alloc(),
+        &["load", "1"],
+        &[],
+        row,
+        shelf(&rt, rt.alloc(), row)?,
+    )?;
+    let figures =
+        b"calls 12\nbytes 127\nforks 1\npromotes 1\nstage NewAlone\naudit yes\n".as_slice();
+    assert!(rt; left.status == 0 && left.printed.as_slice() == figures);
+    // The kernel that was handed in did nothing.
+    assert_eq!(rt; left.done.as_str(), "");
     Ok(())
 }
 

@@ -1,10 +1,10 @@
 //! A server in C through its updates: the key-value store of `guests/kv.c`, over objects in memory.
 
-use mv_calls::{Bytes, Call, Item, Texts};
+use crate::fixtures::{console, files, kernel};
+use mv_calls::{Call, Item};
 use mv_commands::carry_out;
 use mv_history::{Entry, Mark};
-use mv_kernmem::{Conn, Conns, MemKernel, Numbers, Script};
-use mv_outside::{FileAt, MemConsole, MemFiles, VecSink, paths_differ};
+use mv_outside::{MemFiles, VecSink};
 use std::alloc::{AllocError, Global};
 use std::process::Abort;
 use std::test::Fail;
@@ -196,39 +196,7 @@ fn schedule(alloc: Global) -> Result<Vec<u8>, AllocError> {
     Ok(letters)
 }
 
-/// The client's connection.
-fn kernel(alloc: Global) -> Result<MemKernel, Fail> {
-    let mut pieces = Vec::new(alloc);
-    for line in LINES {
-        pieces.push(Bytes::from_slice(alloc, line)?)?;
-    }
-    let mut conns = Vec::new(alloc);
-    conns.push(Conn {
-        pieces: Texts::from_vec(pieces),
-        ends: true,
-    })?;
-    let script = Script {
-        conns: Conns::from_vec(conns),
-        clock: Numbers::from_vec(Vec::new(alloc)),
-        random: Bytes::from_vec(Vec::new(alloc)),
-        fail: Numbers::from_vec(Vec::new(alloc)),
-    };
-    Ok(MemKernel::new(alloc, script)?)
-}
-
-/// The operator says these lines at the looks of these numbers, from 0.
-fn console(alloc: Global, orders: &[(usize, &str)]) -> Result<MemConsole, Fail> {
-    let mut lines = Vec::new(alloc);
-    for (look, line) in orders {
-        for _ in lines.len()..*look {
-            lines.push(None)?;
-        }
-        lines.push(Some(Bytes::from_slice(alloc, line.as_bytes())?))?;
-    }
-    Ok(MemConsole::new(alloc, lines, Vec::new(alloc), Vec::new(alloc)))
-}
-
-fn files(rt: &impl Abort, alloc: Global) -> Result<MemFiles, Fail> {
+fn shelf(rt: &impl Abort, alloc: Global) -> Result<MemFiles, Fail> {
     let wrong = wrong(alloc)?;
     let beats = schedule(alloc)?;
     let named = [
@@ -239,15 +207,7 @@ fn files(rt: &impl Abort, alloc: Global) -> Result<MemFiles, Fail> {
         ("rev", REVERSE),
         ("beats", beats.as_slice()),
     ];
-    let mut all = Vec::new(alloc);
-    for (path, bytes) in named {
-        all.push(FileAt {
-            path: Bytes::from_slice(alloc, path.as_bytes())?,
-            bytes: Bytes::from_slice(alloc, bytes)?,
-        })?;
-    }
-    assert!(rt; paths_differ(all.as_slice()));
-    Ok(MemFiles::new(all, Vec::new(alloc), Vec::new(alloc)))
+    files(rt, alloc, &named, None)
 }
 
 /// The letter of a mark.
@@ -296,9 +256,9 @@ fn rehearsed(rt: &impl Abort, alloc: Global, orders: &[(usize, &str)]) -> Result
     let came = carry_out(
         alloc,
         words.as_slice(),
-        kernel(alloc)?,
-        console(alloc, orders)?,
-        files(rt, alloc)?,
+        kernel(alloc, &LINES, None)?,
+        console(alloc, orders, None, None)?,
+        shelf(rt, alloc)?,
         &mut sink,
     );
     Ok(Shown {

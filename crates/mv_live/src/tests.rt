@@ -1,16 +1,15 @@
 //! The program over objects in memory, and its own objects.
 
 use crate::disk_files::DiskFiles;
+use crate::fixtures::{console, files, kernel, list, module_of, texts};
 use crate::writer_sink::WriterSink;
-use mv_calls::{Bytes, Call, Item, Reply, Texts};
+use mv_calls::{Bytes, Call, Item, Reply};
 use mv_commands::{carry_out, program};
 use mv_history::{Entry, Mark};
-use mv_kernmem::{Conn, Conns, MemKernel, Numbers, Script};
-use mv_outside::{
-    FileAt, Files, Found, FreeGate, MemConsole, MemFiles, Sink, VecSink, paths_differ,
-};
+use mv_outside::{FileAt, Files, Found, FreeGate, MemFiles, Sink, VecSink, paths_differ};
 use mv_reader::read_module;
 use mv_text::assemble;
+use mv_validator::validate;
 use mv_writer::write_module;
 use std::alloc::{AllocError, Global};
 use std::io;
@@ -96,80 +95,6 @@ struct Shown {
     says_hi: bool,
 }
 
-fn list(alloc: Global, number: Option<u64>) -> Result<Vec<u64>, AllocError> {
-    let mut numbers = Vec::new(alloc);
-    if let Some(number) = number {
-        numbers.push(number)?;
-    }
-    Ok(numbers)
-}
-
-/// These words, owned.
-pub(crate) fn texts(alloc: Global, words: &[&str]) -> Result<Vec<String>, AllocError> {
-    let mut all = Vec::new(alloc);
-    for word in words {
-        all.push(String::from_str(alloc, word)?)?;
-    }
-    Ok(all)
-}
-
-/// These files; the read of this number fails.
-pub(crate) fn files(
-    rt: &impl Abort,
-    alloc: Global,
-    named: &[(&str, &[u8])],
-    read: Option<u64>,
-) -> Result<MemFiles, Fail> {
-    let mut all = Vec::new(alloc);
-    for (path, bytes) in named {
-        all.push(FileAt {
-            path: Bytes::from_slice(alloc, path.as_bytes())?,
-            bytes: Bytes::from_slice(alloc, bytes)?,
-        })?;
-    }
-    assert!(rt; paths_differ(all.as_slice()));
-    Ok(MemFiles::new(all, list(alloc, read)?, Vec::new(alloc)))
-}
-
-/// The lines of these orders, each at its look, with idle turns before it.
-pub(crate) fn console(alloc: Global, orders: &[(usize, &str)]) -> Result<MemConsole, Fail> {
-    let mut lines = Vec::new(alloc);
-    for (look, line) in orders {
-        for _ in lines.len()..*look {
-            lines.push(None)?;
-        }
-        lines.push(Some(Bytes::from_slice(alloc, line.as_bytes())?))?;
-    }
-    Ok(MemConsole::new(alloc, lines, Vec::new(alloc), Vec::new(alloc)))
-}
-
-/// A kernel with one connection, over which these pieces come, and then its end; none where there is no piece. The call of this
-/// number fails.
-pub(crate) fn kernel(
-    alloc: Global,
-    pieces: &[&[u8]],
-    perform: Option<u64>,
-) -> Result<MemKernel, Fail> {
-    let mut conns = Vec::new(alloc);
-    if !pieces.is_empty() {
-        let mut texts = Vec::new(alloc);
-        for piece in pieces {
-            texts.push(Bytes::from_slice(alloc, piece)?)?;
-        }
-        conns.push(Conn {
-            pieces: Texts::from_vec(texts),
-            ends: true,
-        })?;
-    }
-    let script = Script {
-        conns: Conns::from_vec(conns),
-        clock: Numbers::from_vec(Vec::new(alloc)),
-        random: Bytes::from_vec(Vec::new(alloc)),
-        fail: Numbers::from_vec(list(alloc, perform)?),
-    };
-    Ok(MemKernel::new(alloc, script)?)
-}
-
 /// The letter of an entry.
 fn letter(entry: &Entry) -> u8 {
     match entry {
@@ -220,7 +145,7 @@ fn row_of(
 ) -> Result<Shown, Fail> {
     let said = texts(alloc, asked.words)?;
     let kernel = kernel(alloc, asked.pieces, asked.perform)?;
-    let console = console(alloc, asked.orders)?;
+    let console = console(alloc, asked.orders, None, None)?;
     let files = files(rt, alloc, named, asked.read)?;
     let mut sink = VecSink::new(alloc, list(alloc, asked.print)?);
     let came = carry_out(alloc, said.as_slice(), kernel, console, files, &mut sink);
@@ -499,6 +424,37 @@ fn each_name_has_its_opcode(rt: HostRuntime) -> Result<(), Fail> {
     Ok(())
 }
 
+/// A text of 200 functions, each exported, and of a segment of 70,000 bytes.
+fn long_text(alloc: Global) -> Result<String, Fail> {
+    let mut text = String::from_str(alloc, "type ->\nmemory 2\n")?;
+    for number in 0..200 {
+        let line = format!(in alloc; "export \"f{number}\" func {number}\n")?;
+        text.push_str(line.as_str())?;
+    }
+    text.push_str("data 0 \"")?;
+    for _ in 0..70_000 {
+        text.push_str("a")?;
+    }
+    text.push_str("\"\n")?;
+    for _ in 0..200 {
+        text.push_str("func 0\nendfunc\n")?;
+    }
+    Ok(text)
+}
+
+#[test]
+fn a_long_module_is_read_validated_and_written_back(rt: HostRuntime) -> Result<(), Fail> {
+    let text = long_text(rt.alloc())?;
+    let file = module_of(rt.alloc(), text.as_bytes())?;
+    // The header, and the sections of types, functions, memories, exports, bodies and data with their sizes.
+    assert_eq!(rt; file.len(), 8 + 6 + 205 + 5 + 1_367 + 605 + 70_012);
+    let read = read_module(rt.alloc(), file.as_slice())?;
+    let valid = validate(rt.alloc(), read)?;
+    let again = write_module(rt.alloc(), valid.module())?;
+    assert!(rt; again.as_slice() == file.as_slice());
+    Ok(())
+}
+
 #[test]
 fn hello_is_written_as_it_is_read(rt: HostRuntime) -> Result<(), Fail> {
     let module = read_module(rt.alloc(), HELLO)?;
@@ -715,7 +671,7 @@ struct Left {
 fn carried(alloc: Global, said: &[&str], order: &str, files: MemFiles) -> Result<Left, Fail> {
     let said = texts(alloc, said)?;
     let kernel = kernel(alloc, &[], None)?;
-    let console = console(alloc, &[(0, order)])?;
+    let console = console(alloc, &[(0, order)], None, None)?;
     let mut sink = VecSink::new(alloc, Vec::new(alloc));
     let came = carry_out(alloc, said.as_slice(), kernel, console, files, &mut sink);
     Ok(Left {
@@ -832,7 +788,7 @@ fn of_program<R: Threads + Wait + Sync>(
 ) -> Result<Shown, Fail> {
     let said = texts(alloc, asked.words)?;
     let kernel = kernel(alloc, asked.pieces, asked.perform)?;
-    let console = console(alloc, asked.orders)?;
+    let console = console(alloc, asked.orders, None, None)?;
     let gate = FreeGate::new();
     let mut sink = VecSink::new(alloc, Vec::new(alloc));
     let came = program(
