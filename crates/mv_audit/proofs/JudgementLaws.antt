@@ -10,7 +10,7 @@ use Rattle.mv_syntax.specs.declared.fault.BornFault.{BornFault}
 use Rattle.mv_version.specs.Behaviour.{Behaviour}
 use Rattle.mv_version.specs.declared.event.Event.{Event}
 use Rattle.mv_version.specs.declared.event.Event.TheVariants as event
-use Rattle.mv_audit.specs.Audit.{IsForked, IsForwardFault, IsReverseFault, IsUnborn, IsUnbornBy, FailsIn, FailsBy, StandsIn, StandsBy, ShownBy, IsJudged, came, base_of, following_of, follower_of, world_of}
+use Rattle.mv_audit.specs.Audit.{IsForked, IsForwardFault, IsReverseFault, IsUnborn, IsUnbornBy, FailsIn, FailsBy, StandsIn, StandsBy, FoundBy, IsTold, MayShow, IsJudged, came, base_of, following_of, follower_of, world_of}
 use Rattle.mv_history.specs.Followers.{Following, FailsAt, Reaches, begin, replayed, replayed_from, rewritten_by, hears_by, is_forked}
 use Rattle.mv_history.specs.Replay.{Stands, Fails, Unborn}
 use Rattle.mv_history.specs.Rules.{IsAccepted, IsRefused, AreAccepted}
@@ -117,29 +117,46 @@ forked_is basis.Forked s = ((λ _. tt), (λ _. tt))
 forked_is basis.Standing s = ((λ bad. bad), (λ bad. bad))
 
 module _ {V : Type 0} (b : Behaviour V) (lead : V) (f : Follower V) (st : Status) where
-  pub shown_exactly : (j : Judgement V) (c : Cause) → IsJudged b (is_asked st) (following_of b f) j
-      → ShownBy f.basis j st c ↔ Shows b (record { lead = lead; following = Some (following_of b f); status = st }) c
-  shown_exactly j (cause.Rules side.Forward fault) h =
+  shown_may : (c : Cause) → Shows b (record { lead = lead; following = Some (following_of b f); status = st }) c → MayShow f.basis st c
+  shown_may (cause.Rules side.Forward fault) x = (forked_is f.basis (b.state f.state)).1 x.0
+  shown_may (cause.Rules side.Reverse fault) x = (forked_is f.basis (b.state f.state)).1 x.0
+  shown_may (cause.Refused fault) x = (forked_is f.basis (b.state f.state)).1 x.0
+  shown_may (cause.Trap k trap) x = tt
+  shown_may (cause.Mismatch k want got) x = x.0
+  shown_may (cause.Order n) x = ((forked_is f.basis (b.state f.state)).1 x.0, x.1)
+  shown_may cause.Memory x = tt
+
+  shown_told : (c : Cause) → IsTold c → MayShow f.basis st c → Shows b (record { lead = lead; following = Some (following_of b f); status = st }) c
+  shown_told (cause.Rules side fault) told x = absurd told
+  shown_told (cause.Refused fault) told x = absurd told
+  shown_told (cause.Trap k trap) told x = absurd told
+  shown_told (cause.Mismatch k want got) told x = absurd told
+  shown_told (cause.Order n) told x = ((forked_is f.basis (b.state f.state)).0 x.0, x.1)
+  shown_told cause.Memory told x = tt
+
+  shown_exactly : (j : Judgement V) (c : Cause) → IsJudged b (is_asked st) (following_of b f) j → MayShow f.basis st c
+      → FoundBy j c ↔ Shows b (record { lead = lead; following = Some (following_of b f); status = st }) c
+  shown_exactly j (cause.Rules side.Forward fault) h may =
       let base = forked_is f.basis (b.state f.state) in
       let is = forward_fault b (is_asked st) (following_of b f) j fault h in
-      ((λ x. (base.0 x.0, is.0 x.1)), (λ x. (base.1 x.0, is.1 x.1)))
-  shown_exactly j (cause.Rules side.Reverse fault) h =
+      ((λ x. (base.0 may, is.0 x)), (λ x. is.1 x.1))
+  shown_exactly j (cause.Rules side.Reverse fault) h may =
       let base = forked_is f.basis (b.state f.state) in
       let is = reverse_fault b (is_asked st) (following_of b f) j fault h in
-      ((λ x. let y = is.0 x.1 in (base.0 x.0, y.0, y.1)), (λ x. (base.1 x.0, is.1 (x.1, x.2))))
-  shown_exactly j (cause.Refused fault) h =
+      ((λ x. let y = is.0 x in (base.0 may, y.0, y.1)), (λ x. is.1 (x.1, x.2)))
+  shown_exactly j (cause.Refused fault) h may =
       let base = forked_is f.basis (b.state f.state) in
       let is = unborn b (is_asked st) (following_of b f) j fault h in
-      ((λ x. let y = is.0 x.1 in (base.0 x.0, y.0, y.1)), (λ x. (base.1 x.0, is.1 (x.1, x.2))))
-  shown_exactly j (cause.Trap k trap) h =
+      ((λ x. let y = is.0 x in (base.0 may, y.0, y.1)), (λ x. is.1 (x.1, x.2)))
+  shown_exactly j (cause.Trap k trap) h may =
       ((λ x. (x.0, (fails b (is_asked st) (following_of b f) j k x.0 (event.Traps trap) h).0 x.1)), (λ x. (x.0, (fails b (is_asked st) (following_of b f) j k x.0 (event.Traps trap) h).1 x.1)))
-  shown_exactly j (cause.Mismatch k want got) h =
+  shown_exactly j (cause.Mismatch k want got) h may =
       let is = fails b (is_asked st) (following_of b f) j k want got h in
-      ((λ x. (x.0, is.0 x.1)), (λ x. (x.0, is.1 x.1)))
-  shown_exactly j (cause.Order n) h =
+      ((λ x. (may, is.0 x)), (λ x. is.1 x.1))
+  shown_exactly j (cause.Order n) h may =
       let base = forked_is f.basis (b.state f.state) in
-      ((λ x. (base.0 x.0, x.1)), (λ x. (base.1 x.0, x.1)))
-  shown_exactly j cause.Memory h = ((λ _. tt), (λ _. tt))
+      ((λ _. (base.0 may.0, may.1)), (λ _. tt))
+  shown_exactly j cause.Memory h may = ((λ _. tt), (λ _. tt))
 
 pub nothing_shown : {V : Type 0} (b : Behaviour V) (lead : V) (st : Status) (c : Cause) → Shows b (record { lead = lead; following = None; status = st }) c → ⊥
 nothing_shown b lead st (cause.Rules side fault) h = h
@@ -149,12 +166,20 @@ nothing_shown b lead st (cause.Mismatch k want got) h = h
 nothing_shown b lead st (cause.Order n) h = h.0
 nothing_shown b lead st cause.Memory h = h
 
-module _ {V : Type 0} (b : Behaviour V) where
-  pub shown_in : (a : Audit V) (f : Follower V) → a.follower ≡ Some f → (j : Judgement V) (c : Cause) → IsJudged b (is_asked a.status) (following_of b f) j
-      → ShownBy f.basis j a.status c ↔ Shows b (world_of b a) c
-  shown_in a f is j c h =
-      let P : Option (Follower V) → Type 0 = λ o. ShownBy f.basis j a.status c ↔ Shows b (record { lead = b.state a.lead; following = follower_of b o; status = a.status }) c in
-      subst P (sym is) (shown_exactly b (b.state a.lead) f a.status j c h)
+module _ {V : Type 0} (b : Behaviour V) (a : Audit V) (f : Follower V) (is : a.follower ≡ Some f) (c : Cause) where
+  abbrev ShowsBeside : Option (Follower V) → Type 0
+  ShowsBeside o = Shows b (record { lead = b.state a.lead; following = follower_of b o; status = a.status }) c
+
+  pub hidden_in : (MayShow f.basis a.status c → ⊥) → Shows b (world_of b a) c → ⊥
+  hidden_in not shown = not (shown_may b (b.state a.lead) f a.status c (subst ShowsBeside is shown))
+
+  pub told_in : IsTold c → MayShow f.basis a.status c → Shows b (world_of b a) c
+  told_in told may = subst ShowsBeside (sym is) (shown_told b (b.state a.lead) f a.status c told may)
+
+  pub shown_in : (j : Judgement V) → IsJudged b (is_asked a.status) (following_of b f) j → MayShow f.basis a.status c → FoundBy j c ↔ Shows b (world_of b a) c
+  shown_in j h may =
+      let exactly = shown_exactly b (b.state a.lead) f a.status j c h may in
+      ((λ found. subst ShowsBeside (sym is) (exactly.0 found)), (λ shown. exactly.1 (subst ShowsBeside is shown)))
 
 module _ {V : Type 0} (b : Behaviour V) (f : Following V) where
   pub ready_stands : (j : Judgement V) → IsJudged b true f j → ((s : V) × Reaches b f s) → StandsIn j

@@ -1,5 +1,5 @@
 -- For private clauses: what the values of the plain fold stand for.
-use Rattle.std.specs.Prelude.{◌≡◌, ℕ, ◌+◌, ◌≤◌, ◌^◌, Bool, cond, IsTrue, Option, Some, None, List}
+use Rattle.std.specs.Prelude.{◌≡◌, ◌⊎◌, ℕ, ◌+◌, ◌≤◌, ◌^◌, Bool, cond, IsTrue, Option, Some, None, List}
 use Rattle.mv_calls.specs.Suits.{suits_of}
 use Rattle.mv_calls.specs.declared.calls.Call.{Call}
 use Rattle.mv_calls.specs.declared.calls.Reply.{Reply}
@@ -12,15 +12,17 @@ use Rattle.mv_syntax.specs.declared.fault.BornFault.{BornFault}
 use Rattle.mv_history.specs.Followers.{Base, Forked, Standing, Following, replayed, IsOtherwise}
 use Rattle.mv_history.specs.Small.{IsSmall}
 use Rattle.mv_history.specs.Statuses.{urgent_of}
-use Rattle.mv_history.specs.World.{World, lead_after, lead_marked, following_after, following_marked, reached_or, also_stands}
+use Rattle.mv_history.specs.World.{World, AsksFor, AsksForTrap, lead_after, lead_marked, following_after, following_marked, reached_or, also_stands}
 use Rattle.mv_history.specs.declared.log.Entry.{Entry}
-use Rattle.mv_history.specs.declared.log.Entry.TheVariants as entry
 use Rattle.mv_history.specs.declared.log.Mark.{Mark}
+use Rattle.mv_history.specs.declared.log.Mark.TheVariants as mark
+use Rattle.mv_history.specs.declared.log.Why.TheVariants as why
 use Rattle.mv_history.specs.declared.updates.Update.{Update}
 use Rattle.mv_history.specs.declared.log.Cause.{Cause}
 use Rattle.mv_history.specs.declared.log.Cause.TheVariants as cause
 use Rattle.mv_history.specs.declared.log.Side.TheVariants as side
 use Rattle.mv_history.specs.declared.status.Status.{Status}
+use Rattle.mv_orders.specs.declared.stage.Stage.TheVariants.{OldLeads, NewLeads}
 use Rattle.mv_history.specs.declared.status.Urgent.TheVariants as urgent
 use Rattle.mv_audit.specs.declared.auditing.Audit.{Audit}
 use Rattle.mv_history.specs.Rules.{Spells, IsAccepted, IsRefused, AreAccepted}
@@ -109,15 +111,34 @@ StandsIn (judgement.Forward found) = ⊥
 StandsIn (judgement.Reverse found) = ⊥
 StandsIn (judgement.Ran outcome) = StandsBy outcome
 
--- what was found out shows the cause
-abbrev pub ShownBy : {V : Type 0} → Basis → Judgement V → Status → Cause → Type 0
-ShownBy p j st (cause.Rules side.Forward fault) = IsForked p × IsForwardFault j fault
-ShownBy p j st (cause.Rules side.Reverse fault) = IsForked p × IsReverseFault j fault
-ShownBy p j st (cause.Refused fault) = IsForked p × IsUnborn j fault
-ShownBy p j st (cause.Trap k trap) = (want : Call) × FailsIn j k want (event.Traps trap)
-ShownBy p j st (cause.Mismatch k want got) = IsOtherwise got × FailsIn j k want got
-ShownBy p j st (cause.Order n) = IsForked p × (urgent_of st ≡ urgent.Discard n)
-ShownBy p j st cause.Memory = Unit {0}
+-- The cause may be shown, by what the follower began with and by the status. Where this doesn't hold nothing that is found
+-- out shows the cause.
+abbrev pub MayShow : Basis → Status → Cause → Type 0
+MayShow p st (cause.Rules side fault) = IsForked p
+MayShow p st (cause.Refused fault) = IsForked p
+MayShow p st (cause.Trap k trap) = Unit {0}
+MayShow p st (cause.Mismatch k want got) = IsOtherwise got
+MayShow p st (cause.Order n) = IsForked p × (urgent_of st ≡ urgent.Discard n)
+MayShow p st cause.Memory = Unit {0}
+
+-- the cause says nothing of what comes of the follower: it is shown where it may be
+abbrev pub IsTold : Cause → Type 0
+IsTold (cause.Rules side fault) = ⊥
+IsTold (cause.Refused fault) = ⊥
+IsTold (cause.Trap k trap) = ⊥
+IsTold (cause.Mismatch k want got) = ⊥
+IsTold (cause.Order n) = Unit {0}
+IsTold cause.Memory = Unit {0}
+
+-- what was found out is what the cause says
+abbrev pub FoundBy : {V : Type 0} → Judgement V → Cause → Type 0
+FoundBy j (cause.Rules side.Forward fault) = IsForwardFault j fault
+FoundBy j (cause.Rules side.Reverse fault) = IsReverseFault j fault
+FoundBy j (cause.Refused fault) = IsUnborn j fault
+FoundBy j (cause.Trap k trap) = (want : Call) × FailsIn j k want (event.Traps trap)
+FoundBy j (cause.Mismatch k want got) = FailsIn j k want got
+FoundBy j (cause.Order n) = Unit {0}
+FoundBy j cause.Memory = Unit {0}
 
 -- ## The world that is meant
 
@@ -127,6 +148,22 @@ follower_of b (Some f) = Some (following_of b f)
 
 abbrev pub world_of : {V : Type 0} → Behaviour V → Audit V → World V
 world_of b a = record { lead = b.state a.lead; following = follower_of b a.follower; status = a.status }
+
+-- ## What is to be found out
+
+-- what comes of the follower decides whether the cause is shown
+abbrev pub AsksOf : {V : Type 0} → Option (Follower V) → Status → Cause → Type 0
+AsksOf None st c = ⊥
+AsksOf (Some f) st c = MayShow f.basis st c × (IsTold c → ⊥)
+
+-- what comes of the follower decides whether the mark may come
+abbrev pub AsksFollower : {V : Type 0} → Audit V → Mark → Type 0
+AsksFollower a mark.Promote = (a.status.ended ≡ None) × (a.status.stage ≡ OldLeads) × AsksFor a.status why.Promote
+AsksFollower a mark.Over = (a.status.ended ≡ None) × (a.status.stage ≡ OldLeads) × AsksForTrap a.status
+AsksFollower a mark.Back = (a.status.ended ≡ None) × (a.status.stage ≡ NewLeads) × (AsksFor a.status why.Back ⊎ AsksForTrap a.status)
+AsksFollower a (mark.Discard x) = (a.status.ended ≡ None) × (a.status.stage ≡ OldLeads) × AsksOf a.follower a.status x
+AsksFollower a (mark.Dropped x) = (a.status.ended ≡ None) × (a.status.stage ≡ NewLeads) × AsksOf a.follower a.status x
+AsksFollower a m = ⊥
 
 -- the world with the guests after a hand-over; the old leader follows, or not
 abbrev pub handed_over : {V : Type 0} → Behaviour V → Bool → World V → World V

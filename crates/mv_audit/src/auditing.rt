@@ -1,10 +1,10 @@
 //! Whether an entry may come, plainly.
-ghost use Rattle.std.specs.Prelude.{◌≡◌, ◌↔◌, IfOk, IsTrue};
+ghost use Rattle.std.specs.Prelude.{◌≡◌, ◌↔◌, IfOk, IsTrue, OnErr};
 ghost use Rattle.mv_calls.specs.declared.calls.Call.{Call as call};
 ghost use Rattle.mv_version.specs.declared.event.Event.TheVariants as events;
 ghost use Rattle.mv_calls.specs.declared.trap.Trap.{Trap as trap};
 ghost use Rattle.mv_history.specs.declared.log.Why.TheVariants as whys;
-ghost use Rattle.mv_audit.specs.Audit.{FailsIn, IsForked, IsForwardFault, IsReverseFault, IsUnborn, ShownBy, StandsIn, world_of};
+ghost use Rattle.mv_audit.specs.Audit.{AsksFollower, AsksOf, FailsIn, FoundBy, IsForked, IsForwardFault, IsReverseFault, IsTold, IsUnborn, MayShow, StandsIn, world_of};
 ghost use Rattle.mv_history.specs.Followers.{IsOtherwise};
 ghost use Rattle.mv_history.specs.World.{AsksFor, AsksForTrap, IsFree, IsOpen, IsReady, MayEnd, MayEnter, MayFork, MayHand, MayMark, Shows};
 
@@ -201,45 +201,90 @@ fn is_standing<V: Version>(judgement: &Judgement<V>) -> bool
     matches!(judgement, Judgement::Ran(Outcome::Stands(_)))
 }
 
-/// Whether what was found out about a follower shows the cause.
-fn is_shown<V: Version>(
-    basis: Basis,
-    judgement: &Judgement<V>,
-    status: &Status,
-    cause: &Cause,
-) -> bool
-    ensures { IsTrue result ↔ ShownBy basis judgement.now status.now cause.now }
+/// Whether the cause may be shown, by what the follower began with and by the status. Nothing is replayed for that.
+fn may_show(basis: Basis, status: &Status, cause: &Cause) -> bool
+    ensures { IsTrue result ↔ MayShow basis status.now cause.now }
 {
     match cause {
-        Cause::Rules {
-            side: Side::Forward,
-            fault,
-        } => is_forked(basis) && has_forward_fault(judgement, *fault),
-        Cause::Rules {
-            side: Side::Reverse,
-            fault,
-        } => is_forked(basis) && has_reverse_fault(judgement, *fault),
-        Cause::Refused(fault) => is_forked(basis) && is_unborn(judgement, *fault),
-        Cause::Trap { k, trap } => traps_at(judgement, *k, *trap),
-        Cause::Mismatch { k, want, got } => {
-            is_otherwise(got) && fails_at(judgement, *k, want, got)
-        }
+        Cause::Rules { .. } => is_forked(basis),
+        Cause::Refused(_) => is_forked(basis),
+        Cause::Trap { .. } => true,
+        Cause::Mismatch { got, .. } => is_otherwise(got),
         Cause::Order { n } => is_forked(basis) && status.urgent() == Urgent::Discard(*n),
         Cause::Memory => true,
     }
 }
 
-/// Whether the cause is shown.
+/// Whether the cause says nothing of what comes of the follower.
+fn is_told(cause: &Cause) -> bool
+    ensures { IsTrue result ↔ IsTold cause.now }
+{
+    match cause {
+        Cause::Rules { .. } => false,
+        Cause::Refused(_) => false,
+        Cause::Trap { .. } => false,
+        Cause::Mismatch { .. } => false,
+        Cause::Order { .. } => true,
+        Cause::Memory => true,
+    }
+}
+
+/// Whether what was found out about a follower is what the cause says.
+fn is_found<V: Version>(judgement: &Judgement<V>, cause: &Cause) -> bool
+    ensures { IsTrue result ↔ FoundBy judgement.now cause.now }
+{
+    match cause {
+        Cause::Rules {
+            side: Side::Forward,
+            fault,
+        } => has_forward_fault(judgement, *fault),
+        Cause::Rules {
+            side: Side::Reverse,
+            fault,
+        } => has_reverse_fault(judgement, *fault),
+        Cause::Refused(fault) => is_unborn(judgement, *fault),
+        Cause::Trap { k, trap } => traps_at(judgement, *k, *trap),
+        Cause::Mismatch { k, want, got } => fails_at(judgement, *k, want, got),
+        Cause::Order { .. } => true,
+        Cause::Memory => true,
+    }
+}
+
+/// Whether the cause is shown. The follower is born and replayed only where that decides.
 #[tactic(auto, using(crate::proofs::JudgementLaws::nothing_shown))]
 fn shows<V: Version>(alloc: Global, audit: &Audit<V>, cause: &Cause) -> Result<bool, OutOfMemory>
-    ensures { IfOk result (λ answer. IsTrue answer ↔ Shows V.behaviour (world_of V.behaviour audit.now) cause.now) }
+    ensures shown { IfOk result (λ answer. IsTrue answer ↔ Shows V.behaviour (world_of V.behaviour audit.now) cause.now) }
+    ensures memory { OnErr result (AsksOf audit.now.follower audit.now.status cause.now) }
 {
     match &audit.follower {
         Some(follower) => {
+            if !may_show(follower.basis, &audit.status, cause) {
+                return Ok(false);
+            }
+            if is_told(cause) {
+                return Ok(true);
+            }
             let judgement = judge(alloc, follower, audit.status.asked.is_some())?;
-            Ok(is_shown(follower.basis, &judgement, &audit.status, cause))
+            Ok(is_found(&judgement, cause))
         }
         None => Ok(false),
+    }
+}
+
+/// Whether this is so and the cause is shown.
+fn shows_where<V: Version>(
+    alloc: Global,
+    audit: &Audit<V>,
+    here: bool,
+    cause: &Cause,
+) -> Result<bool, OutOfMemory>
+    ensures shown { IfOk result (λ answer. IsTrue answer ↔ (IsTrue here × Shows V.behaviour (world_of V.behaviour audit.now) cause.now)) }
+    ensures memory { OnErr result (IsTrue here × AsksOf audit.now.follower audit.now.status cause.now) }
+{
+    if here {
+        shows(alloc, audit, cause)
+    } else {
+        Ok(false)
     }
 }
 
@@ -255,6 +300,22 @@ fn is_ready<V: Version>(alloc: Global, audit: &Audit<V>) -> Result<bool, OutOfMe
         }
         None => Ok(false),
     }
+}
+
+/// Whether this is so and the follower reached a state in which it may lead.
+fn is_ready_where<V: Version>(
+    alloc: Global,
+    audit: &Audit<V>,
+    here: bool,
+) -> Result<bool, OutOfMemory>
+    ensures ready { IfOk result (λ answer. IsTrue answer ↔ (IsTrue here × IsReady V.behaviour (world_of V.behaviour audit.now))) }
+    ensures memory { OnErr result (IsTrue here) }
+{
+    if !here {
+        return Ok(false);
+    }
+    let ready = is_ready(alloc, audit)?;
+    Ok(ready)
 }
 
 /// Whether the log may end so, where the leader does this.
@@ -299,7 +360,8 @@ fn may_fork<V: Version>(audit: &Audit<V>, event: &Event, update: u32) -> bool
     is_free(&audit.status) && audit.status.at_point() == AtPoint::Forks(update) && is_point(event)
 }
 
-/// Whether the mark may come, where the leader does this.
+/// Whether the mark may come, where the leader does this. The status is looked at first, so that the follower is born and
+/// replayed, and memory wanted, only where that decides.
 fn may_mark<V: Version>(
     alloc: Global,
     audit: &Audit<V>,
@@ -307,10 +369,12 @@ fn may_mark<V: Version>(
     mark: &Mark,
 ) -> Result<bool, OutOfMemory>
     requires { V.behaviour.go (V.behaviour.state audit.now.lead) ≡ event.now }
-    ensures { IfOk result (λ answer. IsTrue answer ↔ MayMark V.behaviour (world_of V.behaviour audit.now) mark.now) }
+    ensures may { IfOk result (λ answer. IsTrue answer ↔ MayMark V.behaviour (world_of V.behaviour audit.now) mark.now) }
+    ensures memory { OnErr result (AsksFollower audit.now mark.now) }
 {
     let status = &audit.status;
-    let runs = status.ended.is_none();
+    let old_leads = status.ended.is_none() && status.stage == Stage::OldLeads;
+    let new_leads = status.ended.is_none() && status.stage == Stage::NewLeads;
     match mark {
         Mark::Fork { update } => Ok(may_fork(audit, event, *update)),
         Mark::NoCopy { update } => Ok(may_fork(audit, event, *update)),
@@ -318,29 +382,24 @@ fn may_mark<V: Version>(
             Ok(is_free(status) && status.follower > 0 && may_hand(audit, event, *why))
         }
         Mark::Promote => {
-            let ready = is_ready(alloc, audit)?;
-            Ok(runs && status.stage == Stage::OldLeads && asks_for(status, Why::Promote) && ready)
+            let asked = old_leads && asks_for(status, Why::Promote);
+            let ready = is_ready_where(alloc, audit, asked)?;
+            Ok(ready)
         }
         Mark::Over => {
-            let ready = is_ready(alloc, audit)?;
-            Ok(runs && status.stage == Stage::OldLeads && asks_for_trap(status) && ready)
+            let ready = is_ready_where(alloc, audit, old_leads && asks_for_trap(status))?;
+            Ok(ready)
         }
         Mark::Back => {
-            let ready = is_ready(alloc, audit)?;
             let asked = asks_for(status, Why::Back) || asks_for_trap(status);
-            Ok(runs && status.stage == Stage::NewLeads && asked && ready)
+            let ready = is_ready_where(alloc, audit, new_leads && asked)?;
+            Ok(ready)
         }
         Mark::Finish => Ok(
             is_open(status) && status.stage == Stage::NewLeads && status.urgent() == Urgent::Finish,
         ),
-        Mark::Discard { cause } => {
-            let shown = shows(alloc, audit, cause)?;
-            Ok(runs && status.stage == Stage::OldLeads && shown)
-        }
-        Mark::Dropped { cause } => {
-            let shown = shows(alloc, audit, cause)?;
-            Ok(runs && status.stage == Stage::NewLeads && shown)
-        }
+        Mark::Discard { cause } => shows_where(alloc, audit, old_leads, cause),
+        Mark::Dropped { cause } => shows_where(alloc, audit, new_leads, cause),
         Mark::End { how } => Ok(may_end(audit, event, *how)),
     }
 }

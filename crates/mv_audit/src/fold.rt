@@ -86,8 +86,8 @@ fn first_illegal_from<V: Version>(
 }
 
 /// The number of the first entry that may not come, counted from 0, in a log that begins with this leader and has these
-/// updates; none where the log is legal (docs/DEFINITIONS.md). It runs the leader and replays each follower anew where an
-/// entry speaks of it. The one error is want of memory.
+/// updates; none where the log is legal (docs/DEFINITIONS.md). It runs the leader, and replays a follower anew where that alone
+/// tells whether a mark may come. The one error is want of memory.
 pub fn first_illegal<V: Version>(
     alloc: Global,
     lead: V,

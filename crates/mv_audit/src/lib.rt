@@ -8,6 +8,8 @@ mod entering;
 mod fold;
 mod following;
 mod replaying;
+#[cfg(test)]
+mod rows;
 mod same;
 #[cfg(test)]
 mod tests;

@@ -1,12 +1,14 @@
 //! The reading of the logs of a small guest, and the laws of logs at it.
-ghost use Rattle.std.specs.Prelude.{◌≡◌, ◌∷◌, [], Ok, refl};
+ghost use Rattle.std.specs.Prelude.{◌≡◌, ◌∷◌, ◌==◌, [], cond, Ok, Err, refl};
 ghost use Rattle.std.proofs.Common.{lit<};
 ghost use Rattle.mv_calls.specs.declared.calls.Call.TheVariants as call;
+ghost use Rattle.mv_calls.specs.declared.trap.Trap.TheVariants as trap;
+ghost use Rattle.mv_syntax.specs.declared.fault.BornFault.TheVariants as born;
 ghost use Rattle.mv_audit.specs.declared.tests.Small.TheVariants as small;
 ghost use Rattle.mv_version.specs.declared.event.Event.TheVariants as event;
 
 use super::*;
-use mv_calls::{Bytes, Call, Item, Or, OutOfMemory, Reply, Texts};
+use mv_calls::{Bytes, Call, Item, Or, OutOfMemory, Reply, Texts, Trap};
 use mv_history::{
     Cause, Entry, How, Mark, Update, Updates, Why, accepted_rules_are_shaped, bases_follow,
     counts_fit, followers_hear, judgements_may_come, later_updates_are_unread, leads_by_itself,
@@ -20,24 +22,30 @@ use mv_version::{Event, Version};
 use std::alloc::Global;
 use std::test::*;
 
-/// A guest that passes a point, reads, writes and ends.
+/// A guest that passes a point, reads, writes and ends. One that begins in `Breaks` passes a point and traps. A new version is
+/// born by the first letter of its module: `!` traps, `.` ends with 7, `c` closes, at `?` there is never memory, and any other
+/// goes on as the old one. An empty module has no transformer.
 #[derive(Drop)]
-enum Small {
+pub(crate) enum Small {
     Begins,
     Reads,
     Writes,
     Ends,
+    Breaks,
+    Traps,
+    Quits,
+    Closes,
 }
 
 impl Version for Small {
     ghost behaviour = { record {
       state = λ s. s;
-      go = λ s. elim s [ small.Begins ↦ event.Point | small.Reads ↦ event.Calls (call.Read 0 4) | small.Writes ↦ event.Calls (call.Write 1 (97 ∷ [])) | small.Ends ↦ event.Ends 0 ];
-      after = λ s r. elim s [ small.Begins ↦ small.Reads | small.Reads ↦ small.Writes | small.Writes ↦ small.Ends | small.Ends ↦ small.Ends ];
-      passed = λ s. elim s [ small.Begins ↦ small.Reads | small.Reads ↦ small.Writes | small.Writes ↦ small.Ends | small.Ends ↦ small.Ends ];
+      go = λ s. elim s [ small.Begins ↦ event.Point | small.Reads ↦ event.Calls (call.Read 0 4) | small.Writes ↦ event.Calls (call.Write 1 (97 ∷ [])) | small.Ends ↦ event.Ends 0 | small.Breaks ↦ event.Point | small.Traps ↦ event.Traps trap.Unreachable | small.Quits ↦ event.Ends 7 | small.Closes ↦ event.Calls (call.Close 1) ];
+      after = λ s r. elim s [ small.Begins ↦ small.Reads | small.Reads ↦ small.Writes | small.Writes ↦ small.Ends | small.Ends ↦ small.Ends | small.Breaks ↦ small.Traps | small.Traps ↦ small.Traps | small.Quits ↦ small.Quits | small.Closes ↦ small.Ends ];
+      passed = λ s. elim s [ small.Begins ↦ small.Reads | small.Reads ↦ small.Writes | small.Writes ↦ small.Ends | small.Ends ↦ small.Ends | small.Breaks ↦ small.Traps | small.Traps ↦ small.Traps | small.Quits ↦ small.Quits | small.Closes ↦ small.Ends ];
       started = λ m a. Ok small.Begins;
-      born = λ s m. Ok s;
-      left = λ s. elim s [ small.Begins ↦ 1 | small.Reads ↦ 0 | small.Writes ↦ 0 | small.Ends ↦ 0 ];
+      born = λ s m. elim m [ [] ↦ Err born.NoTransform | x ∷ rest ↦ Ok (cond (x == 33) small.Traps (cond (x == 46) small.Quits (cond (x == 99) small.Closes s))) ];
+      left = λ s. elim s [ small.Begins ↦ 1 | small.Reads ↦ 0 | small.Writes ↦ 0 | small.Ends ↦ 0 | small.Breaks ↦ 1 | small.Traps ↦ 0 | small.Quits ↦ 0 | small.Closes ↦ 0 ];
     } };
 
     ghost prepared = { λ s. Unit {0} };
@@ -46,8 +54,12 @@ impl Version for Small {
         Ok(Small::Begins)
     }
 
-    fn born(_alloc: Global, old: Self, _module: &[u8]) -> Result<Self, Or<BornFault>> {
-        Ok(old)
+    fn born(_alloc: Global, old: Self, module: &[u8]) -> Result<Self, Or<BornFault>> {
+        match module {
+            [] => Err(Or::Fault(BornFault::NoTransform)),
+            [b'?', ..] => Err(Or::OutOfMemory),
+            [letter, ..] => Ok(old.turned(*letter)),
+        }
     }
 
     fn go(&mut self, alloc: Global) -> Result<Event, OutOfMemory> {
@@ -59,6 +71,10 @@ impl Version for Small {
                 bytes: Bytes::from_slice(alloc, b"a")?,
             })),
             Small::Ends => Ok(Event::Ends(0)),
+            Small::Breaks => Ok(Event::Point),
+            Small::Traps => Ok(Event::Traps(Trap::Unreachable)),
+            Small::Quits => Ok(Event::Ends(7)),
+            Small::Closes => Ok(Event::Calls(Call::Close { fd: 1 })),
         }
     }
 
@@ -80,10 +96,14 @@ impl Version for Small {
             Small::Reads => Ok(Small::Reads),
             Small::Writes => Ok(Small::Writes),
             Small::Ends => Ok(Small::Ends),
+            Small::Breaks => Ok(Small::Breaks),
+            Small::Traps => Ok(Small::Traps),
+            Small::Quits => Ok(Small::Quits),
+            Small::Closes => Ok(Small::Closes),
         }
     }
 
-    ghost points_end = { elim [ small.Begins ↦ (λ here again. lit< tt) | small.Reads ↦ (λ here again. absurd (let bad : event.Calls (call.Read 0 4) ≡ event.Point = here in cc)) | small.Writes ↦ (λ here again. absurd (let bad : event.Calls (call.Write 1 (97 ∷ [])) ≡ event.Point = here in cc)) | small.Ends ↦ (λ here again. absurd (let bad : event.Ends 0 ≡ event.Point = here in cc)) ] };
+    ghost points_end = { elim [ small.Begins ↦ (λ here again. lit< tt) | small.Reads ↦ (λ here again. absurd (let bad : event.Calls (call.Read 0 4) ≡ event.Point = here in cc)) | small.Writes ↦ (λ here again. absurd (let bad : event.Calls (call.Write 1 (97 ∷ [])) ≡ event.Point = here in cc)) | small.Ends ↦ (λ here again. absurd (let bad : event.Ends 0 ≡ event.Point = here in cc)) | small.Breaks ↦ (λ here again. lit< tt) | small.Traps ↦ (λ here again. absurd (let bad : event.Traps trap.Unreachable ≡ event.Point = here in cc)) | small.Quits ↦ (λ here again. absurd (let bad : event.Ends 7 ≡ event.Point = here in cc)) | small.Closes ↦ (λ here again. absurd (let bad : event.Calls (call.Close 1) ≡ event.Point = here in cc)) ] };
 
     ghost settled = { record { state_once = λ s. refl; after_is = λ s r. refl; passed_is = λ s. refl; started_is = λ m a s h. refl; born_is = λ s m. refl; newborn_is = λ s m v h. refl } };
 }
@@ -91,14 +111,33 @@ impl Version for Small {
 impl Small {
     /// Goes one on.
     fn pass(&mut self)
-        ensures { self.new ≡ elim self.old [ small.Begins ↦ small.Reads | small.Reads ↦ small.Writes | small.Writes ↦ small.Ends | small.Ends ↦ small.Ends ] }
+        ensures { self.new ≡ elim self.old [ small.Begins ↦ small.Reads | small.Reads ↦ small.Writes | small.Writes ↦ small.Ends | small.Ends ↦ small.Ends | small.Breaks ↦ small.Traps | small.Traps ↦ small.Traps | small.Quits ↦ small.Quits | small.Closes ↦ small.Ends ] }
     {
         *self = match self {
             Small::Begins => Small::Reads,
             Small::Reads => Small::Writes,
             Small::Writes => Small::Ends,
             Small::Ends => Small::Ends,
+            Small::Breaks => Small::Traps,
+            Small::Traps => Small::Traps,
+            Small::Quits => Small::Quits,
+            Small::Closes => Small::Ends,
         };
+    }
+
+    /// The new version of a module with this first letter.
+    fn turned(self, letter: u8) -> Small
+        ensures { result ≡ cond (letter == 33) small.Traps (cond (letter == 46) small.Quits (cond (letter == 99) small.Closes self)) }
+    {
+        if letter == b'!' {
+            Small::Traps
+        } else if letter == b'.' {
+            Small::Quits
+        } else if letter == b'c' {
+            Small::Closes
+        } else {
+            self
+        }
     }
 }
 
@@ -134,7 +173,12 @@ fn the_laws_of_parts_speak_of_a_version(_rt: HostRuntime) -> Result<(), Fail> {
 }
 
 /// An order that is accepted.
-fn order(alloc: Global, line: &[u8], word: Word, update: u32) -> Result<Entry, OutOfMemory> {
+pub(crate) fn order(
+    alloc: Global,
+    line: &[u8],
+    word: Word,
+    update: u32,
+) -> Result<Entry, OutOfMemory> {
     Ok(Entry::Order {
         text: Bytes::from_slice(alloc, line)?,
         reply: OrderReply::Accepted { word, update },

@@ -1,6 +1,6 @@
 -- How a rule's left side is found to match the items at the front, and what its right side makes (docs/FORMATS.md,
 -- "Rewrite rules"). `Matches` says in the words of the rules what is found here.
-use Rattle.std.specs.Prelude.{ℕ, ◌==◌, nat_eq, nat_le, nat_lt, decimal, Bool, true, false, List, [], ◌∷◌, ◌++◌, length, take, drop, map, Option, Some, None, option_and_then, unwrap_or, if◌then◌else◌}
+use Rattle.std.specs.Prelude.{ℕ, ◌<◌, ◌^◌, ◌==◌, nat_eq, nat_le, nat_lt, decimal, Bool, true, false, List, [], ◌∷◌, ◌++◌, length, take, drop, map, Option, Some, None, option_and_then, unwrap_or, if◌then◌else◌}
 use Rattle.std.specs.Option.{option_map}
 use Rattle.std.specs.List.{flat_map, list_all}
 use Rattle.std.specs.Str.{bytes_eq}
@@ -158,6 +158,15 @@ made_of b (patterns.ShutdownErrno fd how errno) = (calls.Shutdown (fd_value fd b
 made_of b patterns.Yield = (calls.Yield, replies.Done)
 made_of b (patterns.Clock id time) = (calls.Clock id, replies.Time (time_value time b))
 made_of b (patterns.Random parts) = (calls.Random (length (bytes_value parts b)), replies.Bytes (bytes_value parts b))
+
+-- the bytes that a call writes
+abbrev pub written_by : Call → List ℕ
+written_by (calls.Write fd bytes) = bytes
+written_by call = []
+
+-- a count, which has 32 bits, can say how many bytes the item writes
+abbrev pub IsCounted : Call × Reply → Type 0
+IsCounted item = length (written_by item.0) < 2 ^ 32
 
 -- the cap or length that a reply needs
 abbrev pub needed : ℕ → Reply → ℕ

@@ -1,10 +1,12 @@
 -- What contracts see of a rewriter, and the lists that it stands for.
-use Rattle.std.specs.Prelude.{◌≡◌, ◌⊎◌, ℕ, Bool, false, not, List, [], ◌∷◌, ◌++◌, drop, Option, Some, None}
+use Rattle.std.specs.Prelude.{◌≡◌, ◌⊎◌, ℕ, Bool, false, not, List, [], ◌∷◌, ◌++◌, drop, take, Option, Some, None}
+use Rattle.std.specs.List.{All}
 use Rattle.mv_calls.specs.declared.calls.Call.{Call}
 use Rattle.mv_calls.specs.declared.calls.Reply.{Reply}
 use Rattle.mv_rules.specs.declared.rule.Rule.{Rule}
 use Rattle.mv_rewrite.specs.Deciding.{Decides, groups, joined}
 use Rattle.mv_rewrite.specs.Matches.{WaitsOn}
+use Rattle.mv_rewrite.specs.Matching.{IsCounted}
 use Rattle.mv_rewrite.specs.Rewriting.{decide}
 
 -- its rules, the items that no decision has taken, and whether no more come
@@ -26,6 +28,10 @@ IsUndecided w = (w.held ≡ []) ⊎ ((w.finished ≡ false) × WaitsOn w.rules w
 abbrev pub Advances : RewriterState → Option (List (Call × Reply)) → RewriterState → Type 0
 Advances old None new = (next_decision old ≡ None) × (new ≡ old)
 Advances old (Some group) new = (count : ℕ) × (next_decision old ≡ Some (group, count)) × (new ≡ record old { held = drop count old.held })
+
+-- a group is the first held item as it came, or each of its items is counted
+abbrev pub PassesOrCounts : RewriterState → List (Call × Reply) → Type 0
+PassesOrCounts w group = (group ≡ take 1 w.held) ⊎ All IsCounted group
 
 -- A rewriter stands for the items fed and the groups given where the groups are those of the first decisions, and
 -- these leave the held items.

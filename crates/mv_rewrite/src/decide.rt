@@ -1,7 +1,7 @@
 //! The decision at the front of a list.
 ghost use Rattle.std.specs.Prelude.{◌≡◌, ◌≤◌, ◌<◌, IfOk, length};
 ghost use Rattle.mv_rules.specs.Shape.{AreShaped};
-ghost use Rattle.mv_rewrite.specs.Decisions.{IsWithin, decision_seen};
+ghost use Rattle.mv_rewrite.specs.Decisions.{IsWithin, MakesCounted, decision_seen};
 ghost use Rattle.mv_rewrite.specs.Rewriting.{decide};
 
 use crate::fit::Fit;
@@ -32,6 +32,7 @@ pub fn decide_front(
     requires shaped { AreShaped rules.now }
     ensures decided { IfOk result (λ decision. decision_seen decision items.now ≡ decide more rules.now items.now) }
     ensures within { IfOk result (λ decision. IsWithin decision (length items.now)) }
+    ensures counted { IfOk result (λ decision. MakesCounted decision) }
 {
     first_decision(alloc, rules, items, more)
 }
@@ -45,7 +46,8 @@ fn first_decision(
 ) -> Result<Decision, OutOfMemory>
     requires some { 0 < length items.now }
     requires shaped { AreShaped rules.now }
-    ensures { IfOk result (λ decision. decision_seen decision items.now ≡ decide more rules.now items.now) }
+    ensures decided { IfOk result (λ decision. decision_seen decision items.now ≡ decide more rules.now items.now) }
+    ensures counted { IfOk result (λ decision. MakesCounted decision) }
 {
     for rule in rules {
         match match_rule(alloc, rule, items)? {

@@ -1,8 +1,8 @@
 //! What right sides make.
-ghost use Rattle.std.specs.Prelude.{◌≡◌, IfOk, map, length, true};
-ghost use Rattle.std.specs.List.{AllPass};
+ghost use Rattle.std.specs.Prelude.{◌≡◌, ◌<◌, ◌^◌, IfOk, map, length, true};
+ghost use Rattle.std.specs.List.{All, AllPass};
 ghost use Rattle.mv_rules.specs.Shape.{errno_counts};
-ghost use Rattle.mv_rewrite.specs.Matching.{bytes_value, made_of};
+ghost use Rattle.mv_rewrite.specs.Matching.{IsCounted, bytes_value, made_of};
 
 use crate::items::Items;
 use crate::names::Names;
@@ -23,7 +23,8 @@ fn make_bytes(alloc: Global, names: &Names, parts: &Parts) -> Result<Vec<u8>, Ou
 
 /// The bytes that the parts make, with their number where it fits.
 fn make_counted(alloc: Global, names: &Names, parts: &Parts) -> Result<(Bytes, u32), OutOfMemory>
-    ensures { IfOk result (λ made. (made.0 ≡ bytes_value parts.now names.now) × (made.1 ≡ length (bytes_value parts.now names.now))) }
+    ensures made { IfOk result (λ made. (made.0 ≡ bytes_value parts.now names.now) × (made.1 ≡ length (bytes_value parts.now names.now))) }
+    ensures counted { IfOk result (λ made. length made.0 < 2 ^ 32) }
 {
     let bytes = make_bytes(alloc, names, parts)?;
     match u32::try_from(bytes.len()) {
@@ -35,7 +36,8 @@ fn make_counted(alloc: Global, names: &Names, parts: &Parts) -> Result<(Bytes, u
 /// The call and the reply that a pattern makes. A length that doesn't fit is want of memory.
 fn make_item(alloc: Global, names: &Names, pattern: &Pattern) -> Result<Item, OutOfMemory>
     requires { errno_counts pattern.now ≡ true }
-    ensures { IfOk result (λ item. item ≡ made_of names.now pattern.now) }
+    ensures made { IfOk result (λ item. item ≡ made_of names.now pattern.now) }
+    ensures counted { IfOk result (λ item. IsCounted item) }
 {
     let (call, reply) = match pattern {
         Pattern::Read { fd, bytes } => {
@@ -66,14 +68,14 @@ fn make_item(alloc: Global, names: &Names, pattern: &Pattern) -> Result<Item, Ou
             });
         }
         Pattern::WriteErrno { fd, bytes, errno } => {
-            let bytes = Bytes::from_vec(make_bytes(alloc, names, bytes)?);
-            (
-                Call::Write {
+            let (bytes, _) = make_counted(alloc, names, bytes)?;
+            return Ok(Item {
+                call: Call::Write {
                     fd: names.fd_value(fd),
                     bytes,
                 },
-                Reply::Errno(*errno),
-            )
+                reply: Reply::Errno(*errno),
+            });
         }
         Pattern::Accept {
             listener,
@@ -139,7 +141,8 @@ fn make_item(alloc: Global, names: &Names, pattern: &Pattern) -> Result<Item, Ou
 /// What a right side makes.
 pub fn make_right(alloc: Global, names: &Names, right: &[Pattern]) -> Result<Items, OutOfMemory>
     requires { AllPass errno_counts right.now }
-    ensures { IfOk result (λ made. made ≡ map (made_of names.now) right.now) }
+    ensures made { IfOk result (λ made. made ≡ map (made_of names.now) right.now) }
+    ensures counted { IfOk result (λ made. All IsCounted made) }
 {
     let mut made = Vec::new(alloc);
     for pattern in right {

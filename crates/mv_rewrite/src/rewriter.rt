@@ -2,7 +2,7 @@
 ghost use Rattle.std.specs.Prelude.{◌≡◌, ◌↔◌, ◌≤◌, ◌<◌, [], ◌∷◌, ◌++◌, false, true, List, length, drop, Some, None, IfOk, OnErr, IfNone, IfSome};
 ghost use Rattle.mv_calls.specs.declared.calls.Call.{Call as call};
 ghost use Rattle.mv_calls.specs.declared.calls.Reply.{Reply as reply};
-ghost use Rattle.mv_rewrite.specs.RewriterState.{Advances, GivesNext, IsUndecided, Stands};
+ghost use Rattle.mv_rewrite.specs.RewriterState.{Advances, GivesNext, IsUndecided, PassesOrCounts, Stands};
 
 use crate::decide::{Decision, decide_front};
 use crate::held::Held;
@@ -81,7 +81,8 @@ impl Rewriter {
     /// Decides the front once: what the right side of the first rule that matches there makes, or the first item where none
     /// does, and at most 16 items. It answers none exactly where nothing is held, or, before [`finish`](Rewriter::finish),
     /// while a rule that could match with more items stands before each that matches already; then at most seven items are
-    /// held. Where memory is wanted, or a made item has a length that doesn't fit, everything stays as it was.
+    /// held. Where memory is wanted, or a made item has a length that doesn't fit, everything stays as it was. A length fits
+    /// where it is below 2^32, so that a count can say it; a write that is made with an error number is held to that too.
     pub fn next(&mut self, alloc: Global) -> Result<Option<Items>, OutOfMemory>
         ensures advances { IfOk result (λ group. Advances self.old group self.new) }
         ensures err { OnErr result (self.new ≡ self.old) }
@@ -91,6 +92,7 @@ impl Rewriter {
         ensures few { IfOk result (λ group. IfNone group (length self.new.held < 8)) }
         ensures none { IfOk result (λ group. (group ≡ None) ↔ IsUndecided self.old) }
         ensures size { IfOk result (λ group. IfSome group (λ items. length items ≤ 16)) }
+        ensures counted { IfOk result (λ group. IfSome group (λ items. PassesOrCounts self.old items)) }
     {
         self.advance(alloc)
     }
@@ -98,6 +100,7 @@ impl Rewriter {
     fn advance(&mut self, alloc: Global) -> Result<Option<Items>, OutOfMemory>
         ensures advances { IfOk result (λ group. Advances self.old group self.new) }
         ensures err { OnErr result (self.new ≡ self.old) }
+        ensures counted { IfOk result (λ group. IfSome group (λ items. PassesOrCounts self.old items)) }
         ensures shaped { AreShaped self.old.rules }
     {
         if self.held.is_empty() {

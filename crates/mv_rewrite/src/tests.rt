@@ -52,10 +52,14 @@ fn items(alloc: Global, reads: bool, rows: &[Moved]) -> Result<Vec<Item>, OutOfM
     Ok(items)
 }
 
-/// An item in words: the first letter of its call, the descriptor, the cap or the count, and the bytes.
+/// An item in words: the first letter of its call, or `e` for a write that fails, the descriptor, the cap, the count or the
+/// errno, and the bytes.
 fn show(shown: &mut Vec<u8>, item: &Item) -> Result<(), OutOfMemory> {
     let (letter, fd, number, bytes) = match (&item.call, &item.reply) {
         (Call::Write { fd, bytes }, Reply::Count(count)) => (b'w', *fd, *count, bytes.slice()),
+        (Call::Write { fd, bytes }, Reply::Errno(errno)) => {
+            (b'e', *fd, u32::from(*errno), bytes.slice())
+        }
         (Call::Read { fd, cap }, Reply::Bytes(bytes)) => (b'r', *fd, *cap, bytes.slice()),
         _ => return Ok(()),
     };
@@ -254,6 +258,23 @@ end
         whole: b"w4 13 10:abcdefghij;w4 3 abc;",
     };
     check(&rt, rt.alloc(), text, false, &moved, want)
+}
+
+#[test]
+fn a_write_that_fails_is_made(rt: HostRuntime) -> Result<(), Fail> {
+    let text = b"mvrules 1
+rule
+write $f @a -> all
+to
+write $f \"<\" @a \">\" -> errno 29
+end
+";
+    let want = Wanted {
+        sure: b"e4 29 <abc>;",
+        held: 0,
+        whole: b"e4 29 <abc>;",
+    };
+    check(&rt, rt.alloc(), text, false, &[(4, b"abc")], want)
 }
 
 #[test]
