@@ -75,8 +75,8 @@ def shapes(room):
     yield "runs of no locals", of_code(b"", runs + b"\x00\x7f" * (few // 2))
     tables = section(4, b"\x01\x70\x01\x00\x00") + MEMORY
     yield "globals", PREAMBLE + section(6, repeated(b"\x7f\x00\x41\x00\x0b", few // 5))
-    count = few // 8
-    names = b"".join(b"\x05" + b"%05x" % k + b"\x02\x00" for k in range(count))
+    count = few // 9
+    names = b"".join(b"\x06" + b"%06x" % k + b"\x02\x00" for k in range(count))
     yield "exports", PREAMBLE + MEMORY + section(7, number(count) + names)
     count = few // 1005
     names = b"".join(number(1000) + b"n" * 994 + b"%06x" % k + b"\x02\x00" for k in range(count))

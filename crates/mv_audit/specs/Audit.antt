@@ -25,7 +25,7 @@ use Rattle.mv_history.specs.declared.status.Status.{Status}
 use Rattle.mv_orders.specs.declared.stage.Stage.TheVariants.{OldLeads, NewLeads}
 use Rattle.mv_history.specs.declared.status.Urgent.TheVariants as urgent
 use Rattle.mv_audit.specs.declared.auditing.Audit.{Audit}
-use Rattle.mv_history.specs.Rules.{Spells, IsAccepted, IsRefused, AreAccepted}
+use Rattle.mv_history.specs.Rules.{SpellsKept, IsAccepted, IsRefused, AreAccepted}
 use Rattle.mv_audit.specs.declared.following.Basis.{Basis}
 use Rattle.mv_audit.specs.declared.following.Basis.TheVariants as basis
 use Rattle.mv_audit.specs.declared.following.Follower.{Follower}
@@ -48,7 +48,7 @@ IsSuited e reply = (call : Call) × (e ≡ event.Calls call) × IsTrue (suits_of
 
 -- what comes of a rules file
 abbrev pub IsVerdict : List ℕ → Verdict → Type 0
-IsVerdict text (verdict.Kept rules) = Spells text rules
+IsVerdict text (verdict.Kept rules) = SpellsKept text rules
 IsVerdict text (verdict.Refused fault) = IsRefused text fault
 
 abbrev pub base_of : {V : Type 0} → Basis → V → Base V

@@ -4,7 +4,7 @@ use Rattle.std.specs.Prelude.{slice_get}
 use Rattle.mv_syntax.specs.declared.fault.BornFault.{BornFault}
 use Rattle.mv_syntax.specs.declared.fault.BornFault.TheVariants as born
 use Rattle.mv_syntax.specs.Sections.{Parts}
-use Rattle.mv_syntax.specs.ModuleLaws.{module_complete}
+use Rattle.mv_syntax.proofs.ModuleLaws.{module_complete}
 use Rattle.mv_validator.specs.Checks.{IsFirstFaultOf}
 use Rattle.mv_validator.proofs.Laws.{fault-invalid}
 use Rattle.mv_rules.specs.declared.rule.Rule.{Rule}
@@ -20,6 +20,8 @@ use Rattle.mv_load.specs.declared.guests.Demo.TheVariants as demo
 use Rattle.mv_history.specs.declared.log.How.{How}
 use Rattle.mv_history.specs.declared.log.Log.{Log}
 use Rattle.mv_rehearse.specs.Runs.{end_status}
+use Rattle.mv_rehearse.specs.declared.outcome.ExitStatus.{ExitStatus}
+use Rattle.mv_rehearse.specs.declared.outcome.ExitStatus.TheVariants as exit
 use Rattle.mv_transform.specs.Births.{started}
 use Rattle.mv_words.specs.Commands.{Says}
 use Rattle.mv_words.specs.declared.command.Command.{Command}
@@ -48,7 +50,7 @@ use Rattle.mv_commands.specs.declared.ending.Ending.TheVariants as ending_is
 -- ## What was shown
 
 -- the status is the ending's, or the sink failed, or memory was wanted
-shown : (ending : Ending) (printed : Option (List ℕ) × Option (List ℕ)) (faults : ℕ × ℕ) (status : ℕ) → Shows ending printed faults status → (status ≡ status_of ending) ⊎ Otherwise faults status
+shown : (ending : Ending) (printed : Option (List ℕ) × Option (List ℕ)) (faults : ℕ × ℕ) (status : ExitStatus) → Shows ending printed faults status → (status ≡ status_of ending) ⊎ Otherwise faults status
 shown ending printed faults status shows = elim shows.2 [
   | inl whole ↦ inl whole.0
   | inr (inl part) ↦ inr (inl (part.0, part.1))
@@ -211,17 +213,17 @@ text_not_bad text (BadSchedule fault) first second = absurd first
 text_not_bad text (BadLog fault) first second = absurd first
 
 -- what is no text has the status of what is refused
-text_is_four : (text : List ℕ) (f : Finding) → IsNoText text f → finding_status f ≡ 4
-text_is_four text (BadText fault) is = refl
-text_is_four text (Refused fault) is = refl
-text_is_four text (BadRules fault) is = refl
-text_is_four text (BadSchedule fault) is = refl
-text_is_four text (BadLog fault) is = refl
-text_is_four text Valid is = absurd is
-text_is_four text (Rules count) is = absurd is
+text_is_bad : (text : List ℕ) (f : Finding) → IsNoText text f → finding_status f ≡ exit.BadFile
+text_is_bad text (BadText fault) is = refl
+text_is_bad text (Refused fault) is = refl
+text_is_bad text (BadRules fault) is = refl
+text_is_bad text (BadSchedule fault) is = refl
+text_is_bad text (BadLog fault) is = refl
+text_is_bad text Valid is = absurd is
+text_is_bad text (Rules count) is = absurd is
 
 text_status : (text : List ℕ) (e f : Finding) → IsNoText text e → IsNoText text f → finding_status e ≡ finding_status f
-text_status text e f first second = text_is_four text e first ∙ sym (text_is_four text f second)
+text_status text e f first second = text_is_bad text e first ∙ sym (text_is_bad text f second)
 
 -- one status for what a file is found to be
 one_status : (command : Command) (told : Option FileMap) (n : ℕ) (text : List ℕ) (e f : Finding) → FoundAt command told n text e → FoundAt command told n text f → finding_status e ≡ finding_status f
@@ -656,7 +658,7 @@ data Done (command : Command) (seen after : Seen) (log : Log) (ending : Ending) 
   made : (bytes : ℕ) → ending ≡ ending_is.Assembled bytes → AssemblyOf command (Assembles seen after log bytes) → Done command seen after log ending
   unwritten : (path : List ℕ) → ending ≡ ending_is.NotWritten path → AssemblyOf command (FailsToWrite seen after log path) → Done command seen after log ending
   loads : (loaded : LoadEnding) → ending ≡ ending_is.Loaded loaded → LoadOf command (LoadsAs log loaded) → Done command seen after log ending
-  shown_by : (entries : List Entry) → status_of ending ≡ 0 → ShowOf command seen.files entries → Done command seen after log ending
+  shown_by : (entries : List Entry) → status_of ending ≡ exit.Success → ShowOf command seen.files entries → Done command seen after log ending
 
 done_goes : (command : Command) (seen after : Seen) (log : Log) (ending : Ending) → Done command seen after log ending → AllGoOn command seen.files
 done_goes command seen after log ending (ran h e was) = ran_goes command seen was.0 log h was.1
@@ -678,14 +680,14 @@ done_not_about command seen after log ending (unwritten path e was) about = kind
 done_not_about command seen after log ending (loads loaded e was) about = kind_not (kind_of command) for_help for_loads help_is_no_load (about_tells command about) (load_kind command _ was)
 done_not_about command seen after log ending (shown_by entries is was) about = tells_not_shows (kind_of command) (about_tells command about) (shown_shows command seen.files entries was)
 
-module _ (Is : Known) (words : List (List ℕ)) (seen after : Seen) (log : Log) (sink : ℕ × ℕ) (status : ℕ) where
-  memory_is : (status ≡ 9) ⊎ Otherwise sink status → Otherwise sink status
-  memory_is (inl nine) = inr nine
+module _ (Is : Known) (words : List (List ℕ)) (seen after : Seen) (log : Log) (sink : ℕ × ℕ) (status : ExitStatus) where
+  memory_is : (status ≡ exit.NoMemory) ⊎ Otherwise sink status → Otherwise sink status
+  memory_is (inl none) = inr none
   memory_is (inr other) = other
 
   -- ---- the words
 
-  bad_words_is : (ending : Ending) → HasCause Is words seen after log ending → (status ≡ status_of ending) ⊎ Otherwise sink status → ((command : Command) → Is command → Says words command → ⊥) → (status ≡ 2) ⊎ Otherwise sink status
+  bad_words_is : (ending : Ending) → HasCause Is words seen after log ending → (status ≡ status_of ending) ⊎ Otherwise sink status → ((command : Command) → Is command → Says words command → ⊥) → (status ≡ exit.BadWords) ⊎ Otherwise sink status
   bad_words_is ending_is.BadWords cause shows none = shows
   bad_words_is ending_is.NoMemory cause shows none = inr (memory_is shows)
   bad_words_is ending_is.Told cause shows none = absurd (none cause.0 cause.1 cause.2)
@@ -732,7 +734,7 @@ module _ (Is : Known) (words : List (List ℕ)) (seen after : Seen) (log : Log) 
   status_by : (ending other : Ending) → ending ≡ other → (status ≡ status_of ending) ⊎ Otherwise sink status → (status ≡ status_of other) ⊎ Otherwise sink status
   status_by ending other e shows = subst (λ (x : Ending). (status ≡ status_of x) ⊎ Otherwise sink status) e shows
 
-  told_is : (command : Command) (ending : Ending) → IsAbout command → Case command ending → (status ≡ status_of ending) ⊎ Otherwise sink status → (status ≡ 0) ⊎ Otherwise sink status
+  told_is : (command : Command) (ending : Ending) → IsAbout command → Case command ending → (status ≡ status_of ending) ⊎ Otherwise sink status → (status ≡ exit.Success) ⊎ Otherwise sink status
   told_is command ending about (gone path e stops) shows = absurd (no_files command stops.number path about stops.named)
   told_is command ending about (found path finding e stops) shows = absurd (no_files command stops.number path about stops.named)
   told_is command ending about (done was) shows = absurd (done_not_about command seen after log ending was about)
@@ -745,7 +747,7 @@ module _ (Is : Known) (words : List (List ℕ)) (seen after : Seen) (log : Log) 
   Gone files path n = files path ≡ None
 
   missing_is : (command : Command) (files : FileMap) (path : List ℕ) (ending : Ending) → seen.files ≡ Some files → StopsAt command seen.files path (Gone files path) → Case command ending → (status ≡ status_of ending) ⊎ Otherwise sink status
-      → (status ≡ 3) ⊎ Otherwise sink status
+      → (status ≡ exit.FileFault) ⊎ Otherwise sink status
   missing_is command files path ending told stops (wanted e) shows = inr (memory_is (status_by ending ending_is.NoMemory e shows))
   missing_is command files path ending told stops (said e about) shows = absurd (no_files command stops.number path about stops.named)
   missing_is command files path ending told stops (gone other e c) shows = status_by ending (ending_is.NoFile other) e shows
@@ -767,12 +769,12 @@ module _ (Is : Known) (words : List (List ℕ)) (seen after : Seen) (log : Log) 
   abbrev Ends : Command → List ℕ → Finding → ℕ → Type 0
   Ends command path finding n = FileIs seen.files path (λ text. FoundAt command seen.files n text finding)
 
-  file_fault : (rose : Rose seen.file_faults after.file_faults) → (status ≡ 3) ⊎ Otherwise sink status → Fails seen after sink status
-  file_fault rose (inl three) = inl (three, rose)
+  file_fault : (rose : Rose seen.file_faults after.file_faults) → (status ≡ exit.FileFault) ⊎ Otherwise sink status → Fails seen after sink status
+  file_fault rose (inl fault) = inl (fault, rose)
   file_fault rose (inr other) = inr other
 
   gone_or_rose : (command : Command) (files : FileMap) (path other : List ℕ) (finding : Finding) → seen.files ≡ Some files → StopsAt command seen.files path (Ends command path finding) → StopsAt command seen.files other (λ k. IsMissing seen.files other ⊎ Rose seen.file_faults after.file_faults)
-      → (status ≡ 3) ⊎ Otherwise sink status → Fails seen after sink status
+      → (status ≡ exit.FileFault) ⊎ Otherwise sink status → Fails seen after sink status
   gone_or_rose command files path other finding told stops c shows = elim c.stops [
     | inr rose ↦ file_fault rose shows
     | inl missing ↦ absurd (elim (order stops.number c.number) [
@@ -854,7 +856,7 @@ module _ (Is : Known) (words : List (List ℕ)) (seen after : Seen) (log : Log) 
   audited_is command ending audit (inl (shown_by entries e was)) shows = absurd (audits_not_shows (kind_of command) (is_audit command audit) (shown_shows command seen.files entries was))
 
   shown_is : (command : Command) (ending : Ending) → IsShow command → Done command seen after log ending ⊎ Fails seen after sink status → (status ≡ status_of ending) ⊎ Otherwise sink status
-      → (status ≡ 0) ⊎ Fails seen after sink status
+      → (status ≡ exit.Success) ⊎ Fails seen after sink status
   shown_is command ending show (inr fails) shown = inr fails
   shown_is command ending show (inl (shown_by entries zero_is was)) (inl is) = inl (is ∙ zero_is)
   shown_is command ending show (inl (shown_by entries zero_is was)) (inr other) = inr (inr other)
@@ -867,7 +869,7 @@ module _ (Is : Known) (words : List (List ℕ)) (seen after : Seen) (log : Log) 
   shown_is command ending show (inl (audited answer e was)) shown = absurd (audits_not_shows (kind_of command) (audited_audits command seen.files answer was) (is_show command show))
 
   assembled_is : (command : Command) (ending : Ending) → IsAssemble command → Done command seen after log ending ⊎ Fails seen after sink status → (status ≡ status_of ending) ⊎ Otherwise sink status
-      → (status ≡ 0) ⊎ Fails seen after sink status
+      → (status ≡ exit.Success) ⊎ Fails seen after sink status
   assembled_is command ending asks (inr fails) look = inr fails
   assembled_is command ending asks (inl (made bytes e was)) look = elim (status_by ending (ending_is.Assembled bytes) e look) [ inl is ↦ inl is | inr other ↦ inr (inr other) ]
   assembled_is command ending asks (inl (unwritten path e was)) look =
@@ -920,7 +922,7 @@ module _ (Is : Known) (words : List (List ℕ)) (seen after : Seen) (log : Log) 
   show_not_about : (command : Command) → IsShow command → IsAbout command → ⊥
   show_not_about command show about = tells_not_shows (kind_of command) (about_tells command about) (is_show command show)
 
-pub exact_is : (Is : Known) (words : List (List ℕ)) (seen after : Seen) (log : Log) (printed : Option (List ℕ) × Option (List ℕ)) (sink : ℕ × ℕ) (status : ℕ) → HasStatus Is words seen after log printed sink status → IsExact Is words seen after log sink status
+pub exact_is : (Is : Known) (words : List (List ℕ)) (seen after : Seen) (log : Log) (printed : Option (List ℕ) × Option (List ℕ)) (sink : ℕ × ℕ) (status : ExitStatus) → HasStatus Is words seen after log printed sink status → IsExact Is words seen after log sink status
 exact_is Is words seen after log printed sink status has =
     let ending = has.0 in
     let look = shown ending printed sink status has.2 in

@@ -7,7 +7,7 @@ use Rattle.mv_outside.specs.Files.{ChangesOnly, FileMap, HasFile}
 use Rattle.mv_outside.specs.Told.{told_more}
 use Rattle.mv_load.specs.Figures.{figures_of}
 use Rattle.mv_load.specs.Files.{guest_file}
-use Rattle.mv_load.specs.Loads.{IsLoad, load_args}
+use Rattle.mv_load.specs.Loads.{IsLoad, IsRehearsal, load_args}
 use Rattle.mv_load.specs.declared.guests.Demo.TheVariants as demo
 use Rattle.mv_history.specs.Ends.{EndsBy}
 use Rattle.mv_history.specs.World.{AreLegal, begun, outside, texts}
@@ -16,9 +16,10 @@ use Rattle.mv_history.specs.declared.log.How.{How}
 use Rattle.mv_history.specs.declared.log.How.TheVariants as how
 use Rattle.mv_history.specs.declared.log.Log.{Log}
 use Rattle.mv_core.specs.Found.{AreFilesKept}
-use Rattle.mv_rehearse.specs.Runs.{DidCalls, IsLegalRun, OrdersAnswered, Rehearsed, end_status}
+use Rattle.mv_rehearse.specs.Runs.{DidCalls, IsLegalRun, OrdersAnswered, end_status}
 use Rattle.mv_rehearse.specs.declared.beats.Beat.{Beat}
-use Rattle.mv_version.specs.Behaviour.{Behaviour}
+use Rattle.mv_rehearse.specs.declared.outcome.ExitStatus.{ExitStatus}
+use Rattle.mv_rehearse.specs.declared.outcome.ExitStatus.TheVariants as exit
 use Rattle.mv_guest.specs.Standing.{Standing}
 use Rattle.mv_transform.specs.Births.{behaviour, started}
 use Rattle.mv_words.specs.Commands.{Says}
@@ -106,10 +107,6 @@ pub record RanAlone (old : List ℕ) (args : List (List ℕ)) (before after : Se
   pub coming : after.coming ≡ before.coming
   pub said : after.said ≡ before.said
   pub whole : EndsBy log.entries.list how.Cut → ⊥
-
--- the log is that of these beats, over a feed of this capacity
-pub record IsRehearsal {V : Type 0} (b : Behaviour V) (began : Began) (ring : ℕ) (beats : List Beat) (log : Log) : Type 0 where
-  pub reached : Rehearsed b began ring beats log
 
 -- by the beats of a schedule, over a feed of this capacity, with an operator who was asked for orders
 pub record RanBy (old schedule : List ℕ) (args : List (List ℕ)) (ring : ℕ) (before after : Seen) (log : Log) (h : How) : Type 0 where
@@ -315,41 +312,41 @@ HasCause Is words before after log NoMemory = NoGuest before after log
 HasCause Is words before after log ending = (command : Command) × Is command × Says words command × CauseOf command before after log ending
 
 -- the status: an ending has its cause, and shows
-abbrev pub HasStatus : Known → List (List ℕ) → Seen → Seen → Log → Option (List ℕ) × Option (List ℕ) → ℕ × ℕ → ℕ → Type 0
+abbrev pub HasStatus : Known → List (List ℕ) → Seen → Seen → Log → Option (List ℕ) × Option (List ℕ) → ℕ × ℕ → ExitStatus → Type 0
 HasStatus Is words before after log printed sink_faults status =
     (ending : Ending) × HasCause Is words before after log ending × Shows ending printed sink_faults status
 
 -- ## The other way round
 
 -- the sink failed, or memory was wanted
-abbrev pub Otherwise : ℕ × ℕ → ℕ → Type 0
-Otherwise sink_faults status = ((status ≡ 7) × Rose sink_faults.0 sink_faults.1) ⊎ (status ≡ 9)
+abbrev pub Otherwise : ℕ × ℕ → ExitStatus → Type 0
+Otherwise sink_faults status = ((status ≡ exit.PrintFault) × Rose sink_faults.0 sink_faults.1) ⊎ (status ≡ exit.NoMemory)
 
 -- a call on the files failed, or the above
-abbrev pub Fails : Seen → Seen → ℕ × ℕ → ℕ → Type 0
-Fails before after sink_faults status = ((status ≡ 3) × Rose before.file_faults after.file_faults) ⊎ Otherwise sink_faults status
+abbrev pub Fails : Seen → Seen → ℕ × ℕ → ExitStatus → Type 0
+Fails before after sink_faults status = ((status ≡ exit.FileFault) × Rose before.file_faults after.file_faults) ⊎ Otherwise sink_faults status
 
 -- each file of the command is there, and it goes on past it
 abbrev pub AllGoOn : Command → Option FileMap → Type 0
 AllGoOn command told = (n : ℕ) (path : List ℕ) → slice_get (files_of command) n ≡ Some path → FileIs told path (GoesOn command told n)
 
 -- Which status comes, by what the words and the told files are, unless something fails or memory is wanted.
-pub record IsExact (Is : Known) (words : List (List ℕ)) (before after : Seen) (log : Log) (sink_faults : ℕ × ℕ) (status : ℕ) : Type 0 where
-  pub bad_words : ((command : Command) → Is command → Says words command → ⊥) → (status ≡ 2) ⊎ Otherwise sink_faults status
-  pub told : (command : Command) → Is command → Says words command → IsAbout command → (status ≡ 0) ⊎ Otherwise sink_faults status
+pub record IsExact (Is : Known) (words : List (List ℕ)) (before after : Seen) (log : Log) (sink_faults : ℕ × ℕ) (status : ExitStatus) : Type 0 where
+  pub bad_words : ((command : Command) → Is command → Says words command → ⊥) → (status ≡ exit.BadWords) ⊎ Otherwise sink_faults status
+  pub told : (command : Command) → Is command → Says words command → IsAbout command → (status ≡ exit.Success) ⊎ Otherwise sink_faults status
   pub missing : (command : Command) (files : FileMap) (path : List ℕ) → Is command → Says words command → before.files ≡ Some files →
-      StopsAt command before.files path (λ n. files path ≡ None) → (status ≡ 3) ⊎ Otherwise sink_faults status
+      StopsAt command before.files path (λ n. files path ≡ None) → (status ≡ exit.FileFault) ⊎ Otherwise sink_faults status
   pub found : (command : Command) (files : FileMap) (path : List ℕ) (finding : Finding) → Is command → Says words command → before.files ≡ Some files →
       StopsAt command before.files path (λ n. FileIs before.files path (λ text. FoundAt command before.files n text finding)) →
       (status ≡ finding_status finding) ⊎ Fails before after sink_faults status
   pub audited : (command : Command) (files : FileMap) → Is command → Says words command → IsAudit command → before.files ≡ Some files → AllGoOn command before.files →
       ((answer : Option ℕ) × AuditOf command before.files answer × (status ≡ audit_status answer)) ⊎ Fails before after sink_faults status
   pub assembled : (command : Command) (files : FileMap) → Is command → Says words command → IsAssemble command → before.files ≡ Some files → AllGoOn command before.files →
-      (status ≡ 0) ⊎ Fails before after sink_faults status
+      (status ≡ exit.Success) ⊎ Fails before after sink_faults status
   pub loaded : (command : Command) → Is command → Says words command → IsLoadCommand command → Starts load_args (guest_file demo.Old) →
       ((h : How) × EndsBy log.entries.list h × (status ≡ end_status h)) ⊎ Otherwise sink_faults status
   pub shown : (command : Command) (files : FileMap) → Is command → Says words command → IsShow command → before.files ≡ Some files → AllGoOn command before.files →
-      (status ≡ 0) ⊎ Fails before after sink_faults status
+      (status ≡ exit.Success) ⊎ Fails before after sink_faults status
   pub ran : (command : Command) (files : FileMap) → Is command → Says words command → RunsGuest command → before.files ≡ Some files →
       AllGoOn command before.files →
       ((h : How) × EndsBy log.entries.list h × (status ≡ end_status h)) ⊎ Fails before after sink_faults status

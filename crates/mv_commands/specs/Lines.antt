@@ -15,6 +15,8 @@ use Rattle.mv_show.specs.Names.{trap_text, read_kind_text, valid_kind_text, rule
 use Rattle.mv_history.specs.declared.log.How.{How}
 use Rattle.mv_history.specs.declared.log.How.TheVariants as how
 use Rattle.mv_rehearse.specs.Runs.{end_status}
+use Rattle.mv_rehearse.specs.declared.outcome.ExitStatus.{ExitStatus}
+use Rattle.mv_rehearse.specs.declared.outcome.ExitStatus.TheVariants as exit
 use Rattle.mv_outside.specs.Causes.{Rose}
 use Rattle.mv_outside.specs.Told.{told_more, AddsPart}
 use Rattle.mv_schedule.specs.declared.fault.ScheduleFault.{ScheduleFault}
@@ -142,44 +144,68 @@ IsLine (Assembled bytes) text = text ≡ codes "bytes " ++ (decimal bytes ++ lin
 IsLine (NotWritten path) text = text ≡ missing_text path
 IsLine (Loaded loaded) text = text ≡ load_text loaded
 
+-- ## Fixed lines
+
+-- For private clauses. The end line of a run has no number and no name in it,
+abbrev pub IsFixedEnd : How → Type 0
+IsFixedEnd (how.Ended code) = ⊥
+IsFixedEnd (how.Trapped trap) = ⊥
+IsFixedEnd h = Unit {0}
+
+-- nor has the line of what a file is found to be,
+abbrev pub IsFixedFinding : Finding → Type 0
+IsFixedFinding Valid = Unit {0}
+IsFixedFinding finding = ⊥
+
+-- nor that of an ending: it is the same each time.
+abbrev pub IsFixed : Ending → Type 0
+IsFixed BadWords = Unit {0}
+IsFixed NoMemory = Unit {0}
+IsFixed Told = Unit {0}
+IsFixed (LogNotMade h) = Unit {0}
+IsFixed (Audited None) = Unit {0}
+IsFixed (Ran h) = IsFixedEnd h
+IsFixed (Found path finding) = IsFixedFinding finding
+IsFixed ending = ⊥
+
 -- ## Statuses
 
-abbrev pub finding_status : Finding → ℕ
-finding_status (Refused fault) = 4
-finding_status Valid = 0
-finding_status (BadRules fault) = 4
-finding_status (Rules count) = 0
-finding_status (BadSchedule fault) = 4
-finding_status (BadLog fault) = 4
-finding_status (BadText fault) = 4
+abbrev pub finding_status : Finding → ExitStatus
+finding_status (Refused fault) = exit.BadFile
+finding_status Valid = exit.Success
+finding_status (BadRules fault) = exit.BadFile
+finding_status (Rules count) = exit.Success
+finding_status (BadSchedule fault) = exit.BadFile
+finding_status (BadLog fault) = exit.BadFile
+finding_status (BadText fault) = exit.BadFile
 
-abbrev pub audit_status : Option ℕ → ℕ
-audit_status None = 0
-audit_status (Some entry) = 8
+abbrev pub audit_status : Option ℕ → ExitStatus
+audit_status None = exit.Success
+audit_status (Some entry) = exit.IllegalLog
 
-abbrev pub loaded_status : LoadEnding → ℕ
+abbrev pub loaded_status : LoadEnding → ExitStatus
 loaded_status (LoadEnded h figures) = end_status h
-loaded_status (LoadRefused fault) = 4
+loaded_status (LoadRefused fault) = exit.BadFile
 
-abbrev pub status_of : Ending → ℕ
-status_of BadWords = 2
-status_of NoMemory = 9
-status_of Told = 0
-status_of (NoFile path) = 3
+abbrev pub status_of : Ending → ExitStatus
+status_of BadWords = exit.BadWords
+status_of NoMemory = exit.NoMemory
+status_of Told = exit.Success
+status_of (NoFile path) = exit.FileFault
 status_of (Found path finding) = finding_status finding
 status_of (Ran h) = end_status h
-status_of (LogFailed path h) = 3
-status_of (LogNotMade h) = 9
+status_of (LogFailed path h) = exit.FileFault
+status_of (LogNotMade h) = exit.NoMemory
 status_of (Audited illegal) = audit_status illegal
-status_of (Shown entries) = 0
-status_of (Assembled bytes) = 0
-status_of (NotWritten path) = 3
+status_of (Shown entries) = exit.Success
+status_of (Assembled bytes) = exit.Success
+status_of (NotWritten path) = exit.FileFault
 status_of (Loaded loaded) = loaded_status loaded
 
--- An ending shows by its status and its whole line; or by 7 where the sink failed, with a part of the line; or by 9 for
--- want of memory, with nothing.
-abbrev pub Shows : Ending → Option (List ℕ) × Option (List ℕ) → ℕ × ℕ → ℕ → Type 0
+-- An ending shows by its status and its whole line; or by a fault of printing where the sink failed, with a part of the line; or
+-- by want of memory, with nothing.
+abbrev pub Shows : Ending → Option (List ℕ) × Option (List ℕ) → ℕ × ℕ → ExitStatus → Type 0
 Shows ending printed faults status =
     (line : List ℕ) × IsLine ending line × (((status ≡ status_of ending) × (printed.1 ≡ told_more printed.0 line))
-    ⊎ (((status ≡ 7) × Rose faults.0 faults.1 × AddsPart printed.0 line printed.1)
-    ⊎ ((status ≡ 9) × (printed.1 ≡ printed.0))))
+    ⊎ (((status ≡ exit.PrintFault) × Rose faults.0 faults.1 × AddsPart printed.0 line printed.1)
+    ⊎ ((status ≡ exit.NoMemory) × (printed.1 ≡ printed.0))))

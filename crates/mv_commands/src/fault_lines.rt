@@ -1,6 +1,6 @@
 //! The lines of faults of files: the kind by its name, and where it stands (docs/FORMATS.md, "Fault lines").
 ghost use Rattle.std.specs.Prelude.{◌≡◌, [], ◌++◌, ◌∷◌, IfOk, OnOk, decimal};
-ghost use Rattle.mv_commands.specs.Lines.{record_kind_text, text_kind_text, fault_text, numbers_text, refusal_text, start_fault_text, schedule_fault_text, finding_text};
+ghost use Rattle.mv_commands.specs.Lines.{IsFixedFinding, record_kind_text, text_kind_text, fault_text, numbers_text, refusal_text, start_fault_text, schedule_fault_text, finding_text};
 
 use crate::ending::Finding;
 use itoa::Buffer;
@@ -142,13 +142,14 @@ fn schedule_fault_line(
     }
 }
 
-/// The line of what a file is found to be.
+/// The line of what a file is found to be, where it has to be made.
 pub fn finding_line(alloc: Global, path: &Bytes, finding: Finding) -> Result<Vec<u8>, OutOfMemory>
+    requires { IsFixedFinding finding → ⊥ }
     ensures { IfOk result (λ line. line.items ≡ finding_text path.now finding) }
 {
     match finding {
         Finding::Refused(fault) => refusal_line(alloc, path, fault),
-        Finding::Valid => Ok(Vec::from_slice(alloc, b"valid\n")?),
+        Finding::Valid => unreachable!(),
         Finding::BadRules(fault) => {
             let line = u64::from(fault.line);
             fault_line(alloc, path, rule_kind_name(fault.kind), &[line])

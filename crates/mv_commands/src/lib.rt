@@ -14,5 +14,5 @@ mod showing;
 
 pub use carrying::{carry_out, program};
 pub use ending::{Ending, Finding, LoadEnding};
-pub use mv_rehearse::Outcome;
+pub use mv_rehearse::{ExitStatus, Outcome};
 pub use mv_schedule::ScheduleFault;

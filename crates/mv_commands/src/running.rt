@@ -3,8 +3,9 @@ ghost use Rattle.std.specs.Prelude.{◌≡◌, ◌≤◌, [], IsTrue, false};
 ghost use Rattle.mv_core.specs.Found.{AreFilesKept};
 ghost use Rattle.mv_core.specs.Sound.{IsNewRun};
 ghost use Rattle.mv_rehearse.specs.Runs.{DidCalls, HasEnded, IsLegalRun, OrdersAnswered, began_with};
+ghost use Rattle.mv_load.specs.Loads.{IsRehearsal};
 ghost use Rattle.mv_words.specs.declared.command.Command.TheVariants as ask;
-ghost use Rattle.mv_commands.specs.Causes.{CauseOf, IsFeasible, IsOnOneThread, IsRehearsal, seen_of};
+ghost use Rattle.mv_commands.specs.Causes.{CauseOf, IsFeasible, IsOnOneThread, seen_of};
 ghost use Rattle.mv_commands.specs.Loading.{audit_ending_by, ending_by, show_ending_by};
 
 use crate::assembling::assemble_asked;

@@ -1,6 +1,6 @@
 //! The one line that a command prints, and its status.
-ghost use Rattle.std.specs.Prelude.{◌≡◌, ◌++◌, codes, decimal, IfOk, List, OnOk, ℕ};
-ghost use Rattle.mv_commands.specs.Lines.{IsLine, Shows, audit_text, line_feed, end_text, figure_text, figures_text, finding_status, load_text, loaded_status, missing_text, status_of};
+ghost use Rattle.std.specs.Prelude.{◌≡◌, ◌++◌, codes, decimal, IfOk, IfSome, IsSome, OnOk, Some};
+ghost use Rattle.mv_commands.specs.Lines.{IsFixed, IsFixedEnd, IsLine, Shows, audit_text, line_feed, end_text, figure_text, figures_text, finding_status, load_text, loaded_status, missing_text, status_of};
 
 use crate::ending::{Ending, Finding, LoadEnding};
 use crate::fault_lines::{add_number, finding_line, refusal_line};
@@ -8,15 +8,9 @@ use mv_calls::{Bytes, Or, OutOfMemory};
 use mv_history::How;
 use mv_load::Figures;
 use mv_outside::Sink;
-use mv_rehearse::status_by;
+use mv_rehearse::{ExitStatus, status_by};
 use mv_show::{log_lines, stage_name, trap_name};
 use std::alloc::Global;
-
-/// The status where a call of the sink failed.
-const SINK_FAULT: u8 = 7;
-
-/// The status for want of memory.
-const NO_MEMORY: u8 = 9;
 
 /// How the program is called.
 const HELP: &[u8] = b"mv run OLD [ARG ..]\n\
@@ -40,8 +34,24 @@ fn missing_line(alloc: Global, path: &Bytes) -> Result<Vec<u8>, OutOfMemory>
     Ok(line)
 }
 
-/// The end line of a run.
+/// The end line of a run, where it has no number and no name in it.
+fn fixed_end(how: How) -> Option<&'static [u8]>
+    ensures text { IfSome result (λ text. text.now ≡ end_text how) }
+    ensures fixed { IsFixedEnd how → IsSome result }
+{
+    match how {
+        How::Ended(_) | How::Trapped(_) => None,
+        How::Halted => Some(b"halted\n"),
+        How::Cut => Some(b"cut\n"),
+        How::KernelFault => Some(b"kernel fault\n"),
+        How::LogLimit => Some(b"log limit\n"),
+        How::Memory => Some(b"no memory\n"),
+    }
+}
+
+/// The end line of a run, where it has a number or a name in it.
 fn end_line(alloc: Global, how: How) -> Result<Vec<u8>, OutOfMemory>
+    requires { IsFixedEnd how → ⊥ }
     ensures { IfOk result (λ line. line.items ≡ end_text how) }
 {
     match how {
@@ -57,27 +67,18 @@ fn end_line(alloc: Global, how: How) -> Result<Vec<u8>, OutOfMemory>
             line.push(b'\n')?;
             Ok(line)
         }
-        How::Halted => Ok(Vec::from_slice(alloc, b"halted\n")?),
-        How::Cut => Ok(Vec::from_slice(alloc, b"cut\n")?),
-        How::KernelFault => Ok(Vec::from_slice(alloc, b"kernel fault\n")?),
-        How::LogLimit => Ok(Vec::from_slice(alloc, b"log limit\n")?),
-        How::Memory => Ok(Vec::from_slice(alloc, b"no memory\n")?),
+        How::Halted | How::Cut | How::KernelFault | How::LogLimit | How::Memory => unreachable!(),
     }
 }
 
-/// The line of an audit's answer.
-fn audit_line(alloc: Global, illegal: Option<u64>) -> Result<Vec<u8>, OutOfMemory>
-    ensures { IfOk result (λ line. line.items ≡ audit_text illegal) }
+/// The line of an audit that found an illegal entry.
+fn illegal_line(alloc: Global, entry: u64) -> Result<Vec<u8>, OutOfMemory>
+    ensures { IfOk result (λ line. line.items ≡ audit_text (Some entry)) }
 {
-    match illegal {
-        None => Ok(Vec::from_slice(alloc, b"yes\n")?),
-        Some(entry) => {
-            let mut line = Vec::from_slice(alloc, b"no ")?;
-            add_number(&mut line, entry)?;
-            line.push(b'\n')?;
-            Ok(line)
-        }
-    }
+    let mut line = Vec::from_slice(alloc, b"no ")?;
+    add_number(&mut line, entry)?;
+    line.push(b'\n')?;
+    Ok(line)
 }
 
 /// The line of a text that was assembled.
@@ -129,20 +130,41 @@ fn load_lines(alloc: Global, loaded: LoadEnding) -> Result<Vec<u8>, OutOfMemory>
     }
 }
 
-/// The line that says an ending.
-fn line(alloc: Global, ending: &Ending) -> Result<Vec<u8>, OutOfMemory>
+/// The line of an ending, where it is the same each time. It is there without any memory.
+fn fixed_line(ending: &Ending) -> Option<&'static [u8]>
+    ensures line { IfSome result (λ text. IsLine ending.now text.now) }
+    ensures fixed { IsFixed ending.now → IsSome result }
+{
+    match ending {
+        Ending::BadWords => Some(b"mv: bad words\n"),
+        Ending::NoMemory | Ending::LogNotMade(_) => Some(b"no memory\n"),
+        Ending::Told => Some(HELP),
+        Ending::Found {
+            finding: Finding::Valid,
+            ..
+        } => Some(b"valid\n"),
+        Ending::Audited { illegal: None } => Some(b"yes\n"),
+        Ending::Ran(how) => fixed_end(*how),
+        _ => None,
+    }
+}
+
+/// The line of an ending, where it has to be made.
+fn made_line(alloc: Global, ending: &Ending) -> Result<Vec<u8>, OutOfMemory>
+    requires { IsFixed ending.now → ⊥ }
     ensures { IfOk result (λ line. IsLine ending.now line.items) }
 {
     match ending {
-        Ending::BadWords => Ok(Vec::from_slice(alloc, b"mv: bad words\n")?),
-        Ending::NoMemory => Ok(Vec::from_slice(alloc, b"no memory\n")?),
-        Ending::Told => Ok(Vec::from_slice(alloc, HELP)?),
+        Ending::BadWords | Ending::NoMemory | Ending::Told | Ending::LogNotMade(_) =>
+            unreachable!(),
         Ending::NoFile { path } => missing_line(alloc, path),
         Ending::Found { path, finding } => finding_line(alloc, path, *finding),
         Ending::Ran(how) => end_line(alloc, *how),
         Ending::LogFailed { path, .. } => missing_line(alloc, path),
-        Ending::LogNotMade(_) => Ok(Vec::from_slice(alloc, b"no memory\n")?),
-        Ending::Audited { illegal } => audit_line(alloc, *illegal),
+        Ending::Audited { illegal: None } => unreachable!(),
+        Ending::Audited {
+            illegal: Some(entry),
+        } => illegal_line(alloc, *entry),
         Ending::Shown { entries } => log_lines(alloc, entries.slice()),
         Ending::Assembled { bytes } => bytes_line(alloc, *bytes),
         Ending::NotWritten { path } => missing_line(alloc, path),
@@ -151,7 +173,7 @@ fn line(alloc: Global, ending: &Ending) -> Result<Vec<u8>, OutOfMemory>
 }
 
 /// The status of a file that was judged.
-fn found_status(finding: Finding) -> u8
+fn found_status(finding: Finding) -> ExitStatus
     ensures { result ≡ finding_status finding }
 {
     match finding {
@@ -159,53 +181,64 @@ fn found_status(finding: Finding) -> u8
         | Finding::BadRules(_)
         | Finding::BadSchedule(_)
         | Finding::BadLog(_)
-        | Finding::BadText(_) => 4,
-        Finding::Valid | Finding::Rules(_) => 0,
+        | Finding::BadText(_) => ExitStatus::BadFile,
+        Finding::Valid | Finding::Rules(_) => ExitStatus::Success,
     }
 }
 
 /// The status of a load.
-fn load_status(loaded: LoadEnding) -> u8
+fn load_status(loaded: LoadEnding) -> ExitStatus
     ensures { result ≡ loaded_status loaded }
 {
     match loaded {
         LoadEnding::Ended { how, .. } => status_by(how),
-        LoadEnding::Refused(_) => 4,
+        LoadEnding::Refused(_) => ExitStatus::BadFile,
     }
 }
 
 /// The status that the process exits with, where the line is printed.
-fn status(ending: &Ending) -> u8
+fn status(ending: &Ending) -> ExitStatus
     ensures { result ≡ status_of ending.now }
 {
     match ending {
-        Ending::BadWords => 2,
-        Ending::NoMemory => NO_MEMORY,
-        Ending::Told => 0,
-        Ending::NoFile { .. } => 3,
+        Ending::BadWords => ExitStatus::BadWords,
+        Ending::NoMemory => ExitStatus::NoMemory,
+        Ending::Told => ExitStatus::Success,
+        Ending::NoFile { .. } => ExitStatus::FileFault,
         Ending::Found { finding, .. } => found_status(*finding),
         Ending::Ran(how) => status_by(*how),
-        Ending::LogFailed { .. } => 3,
-        Ending::LogNotMade(_) => NO_MEMORY,
-        Ending::Audited { illegal: None } => 0,
-        Ending::Audited { illegal: Some(_) } => 8,
-        Ending::Shown { .. } => 0,
-        Ending::Assembled { .. } => 0,
-        Ending::NotWritten { .. } => 3,
+        Ending::LogFailed { .. } => ExitStatus::FileFault,
+        Ending::LogNotMade(_) => ExitStatus::NoMemory,
+        Ending::Audited { illegal: None } => ExitStatus::Success,
+        Ending::Audited { illegal: Some(_) } => ExitStatus::IllegalLog,
+        Ending::Shown { .. } => ExitStatus::Success,
+        Ending::Assembled { .. } => ExitStatus::Success,
+        Ending::NotWritten { .. } => ExitStatus::FileFault,
         Ending::Loaded(loaded) => load_status(*loaded),
     }
 }
 
-/// Prints the line of an ending, and gives the status.
-pub fn show<S: Sink>(alloc: Global, ending: &Ending, out: &mut S) -> u8
+/// Prints this line of an ending, and gives the status.
+fn print<S: Sink>(alloc: Global, ending: &Ending, text: &[u8], out: &mut S) -> ExitStatus
+    requires { IsLine ending.now text.now }
     ensures { Shows ending.now (S.written out.old, S.written out.new) (S.faults out.old, S.faults out.new) result }
 {
-    let Ok(text) = line(alloc, ending) else {
-        return NO_MEMORY;
-    };
-    match out.write_all_of(alloc, text.as_slice()) {
+    match out.write_all_of(alloc, text) {
         Ok(()) => status(ending),
-        Err(Or::Fault(_)) => SINK_FAULT,
-        Err(Or::OutOfMemory) => NO_MEMORY,
+        Err(Or::Fault(_)) => ExitStatus::PrintFault,
+        Err(Or::OutOfMemory) => ExitStatus::NoMemory,
     }
+}
+
+/// Prints the line of an ending, and gives the status.
+pub fn show<S: Sink>(alloc: Global, ending: &Ending, out: &mut S) -> ExitStatus
+    ensures { Shows ending.now (S.written out.old, S.written out.new) (S.faults out.old, S.faults out.new) result }
+{
+    if let Some(text) = fixed_line(ending) {
+        return print(alloc, ending, text, out);
+    }
+    let Ok(text) = made_line(alloc, ending) else {
+        return ExitStatus::NoMemory;
+    };
+    print(alloc, ending, text.as_slice(), out)
 }

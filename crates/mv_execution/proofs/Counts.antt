@@ -1,12 +1,13 @@
 -- How far the gap rises in a run.
 use Rattle.std.proofs.Common.{true, false, cond, Bool, ◌≡◌, ℕ, zero, suc, ◌+◌, List, [], ◌∷◌, length, Option, Some, None, refl, ◌∙◌, subst, arith}
+use Rattle.mv_syntax.specs.Types.{same_function_type}
 use Rattle.std.specs.Prelude.{nat_le, nat_lt, slice_get}
 use Rattle.mv_calls.specs.declared.trap.Trap.TheVariants as trap
 use Rattle.mv_syntax.specs.declared.ops.ValType.TheVariants.{I32}
 use Rattle.mv_syntax.specs.declared.types.FuncType.{FuncType}
 use Rattle.mv_syntax.specs.declared.instr.Instr.TheVariants as instr
 use Rattle.mv_syntax.specs.Tree.{Tree, plain}
-use Rattle.mv_execution.specs.Values.{is_of, same_function_type}
+use Rattle.mv_execution.specs.Values.{is_of}
 use Rattle.mv_execution.specs.Config.{Body, Function, Program, OpenBlock, Frame, Config, frame_limit, operand_limit, gap_limit}
 use Rattle.mv_execution.specs.Rows.{Out, Goes, Traps, Stuck, Next, advanced}
 use Rattle.mv_execution.specs.Step.{within_limit, went, begun, invoked, called, called_as, called_entry, called_indirect, row, counted, step_of, step}

@@ -1,5 +1,6 @@
 -- Runs keep the limits of this host.
 use Rattle.std.proofs.Common.{true, false, cond, Bool, ◌≡◌, ℕ, zero, suc, ◌+◌, ◌≤◌, List, [], ◌∷◌, ◌++◌, length, take, drop, Option, Some, None, refl, sym, ap, subst, arith, length-append, length-drop}
+use Rattle.mv_syntax.specs.Types.{same_function_type}
 use Rattle.std.proofs.lemmas.List.{length-take}
 use Rattle.std.proofs.lemmas.Bool.{leb-false, ltb-false}
 use Rattle.std.specs.Prelude.{nat_le, nat_lt, slice_get, reverse}
@@ -12,7 +13,7 @@ use Rattle.mv_syntax.specs.declared.instr.Instr.TheVariants as instr
 use Rattle.mv_syntax.specs.Sections.{Parts}
 use Rattle.mv_syntax.specs.Tree.{Tree, done, plain, block, loop, choice}
 use Rattle.mv_memory.specs.Memory.{Contents}
-use Rattle.mv_execution.specs.Values.{arity_of, is_of, same_function_type}
+use Rattle.mv_execution.specs.Values.{arity_of, is_of}
 use Rattle.mv_execution.specs.Config.{Body, Function, Program, OpenBlock, Frame, Config, frame_limit, operand_limit, gap_limit, operand_count}
 use Rattle.mv_execution.specs.Rows.{Out, Goes, Traps, Stuck, Next, popping, advanced}
 use Rattle.mv_execution.specs.Step.{within_limit, went, entry_frame, without_operands, begun, invoked, called, called_as, called_entry, called_indirect, row, counted, step_of}

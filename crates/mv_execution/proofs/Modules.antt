@@ -80,8 +80,8 @@ table-empty : (o : Option Limits) (i x : ℕ) → slice_get (table_of o) i ≡ S
 table-empty None i x e = absurd (cc)
 table-empty (Some l) i x e = empty-entries l.min i x e
 
-pub new-fits : (p : Parts) → IsTypedModule p → FitsConfig (module_context p) (new_config p)
+pub new-fits : (p : Parts) → IsTypedModule p → FitsConfig (module_context p) [] (new_config p)
 new-fits p h = record {
   store = record { bytes = memory-bytes p.memory; pages = memory-pages p.memory h.memory; globals = globals-are p.globals h.globals; table = λ i x e. absurd (table-empty p.table i x e) };
-  calls = ([], tt, tt);
+  calls = ([], tt, refl);
 }

@@ -9,7 +9,7 @@ use Rattle.mv_syntax.specs.declared.instr.Instr.{Instr}
 use Rattle.mv_syntax.specs.declared.instr.Instr.TheVariants as instr
 use Rattle.mv_syntax.specs.Kept.{IsSpellable, IsWidth}
 use Rattle.mv_syntax.specs.Tree.{Tree, done, plain, block, loop, choice, Rest, rest_of, other_of, joined, in_front, rests}
-use Rattle.mv_syntax.specs.TreeLaws.{rests-behind, without-some}
+use Rattle.mv_syntax.proofs.TreeLaws.{rests-behind, without-some}
 use Rattle.mv_validator.specs.Typing.{Context, IsTyped}
 use Rattle.mv_execution.specs.Values.{is_width}
 use Rattle.mv_execution.specs.Instance.{first_tree, tree_of}

@@ -17,7 +17,7 @@ use Rattle.mv_memory.specs.Bytes.{IsByte, page_limit}
 use Rattle.mv_memory.specs.Memory.{page_count}
 use Rattle.mv_execution.specs.Values.{is_width}
 use Rattle.mv_execution.specs.Config.{Body, Function, Program, Store, OpenBlock, Frame, Config}
-use Rattle.mv_execution.specs.Run.{Stop, IsStuck}
+use Rattle.mv_execution.specs.Run.{Stop, Ended, IsStuck}
 
 -- ---- values
 
@@ -84,10 +84,10 @@ pub record FitsUnder (c : Context) (pushed : List ValType) (f : Frame) : Type 0 
 abbrev pub Fits : Context → Frame → Type 0
 Fits c f = FitsUnder c [] f
 
--- The calls of a module's functions, the newest first; each gives to the next one.
-abbrev pub FitFrames : Context → List ValType → List Frame → Type 0
-FitFrames m pushed [] = Unit {0}
-FitFrames m pushed (f ∷ fs) = (locals : List ValType) × (result : Option ValType) × FitsUnder (in_function m locals result) pushed f × FitFrames m (operands_of result) fs
+-- The calls of a module's functions, the newest first; each gives to the next one, and the last one values of the types gs.
+abbrev pub FitFrames : Context → List ValType → List ValType → List Frame → Type 0
+FitFrames m gs pushed [] = pushed ≡ gs
+FitFrames m gs pushed (f ∷ fs) = (locals : List ValType) × (result : Option ValType) × FitsUnder (in_function m locals result) pushed f × FitFrames m gs (operands_of result) fs
 
 -- ---- functions
 
@@ -112,17 +112,18 @@ pub record FitsStore (m : Context) (s : Store) : Type 0 where
 -- ---- configurations
 
 -- the newest frame has the arguments of the call that waits over the operands below, and is to be given its result
-abbrev pub FitsWaiting : Context → FuncType → List Frame → Type 0
-FitsWaiting m t [] = t.params ≡ []
-FitsWaiting m t (f ∷ fs) = (arguments below : List ℕ) × (f.operands ≡ arguments ++ below) × AreOf (reverse t.params) arguments × FitFrames m (operands_of t.result) (record f { operands = below } ∷ fs)
+abbrev pub FitsWaiting : Context → List ValType → FuncType → List Frame → Type 0
+FitsWaiting m gs t [] = (t.params ≡ []) × (operands_of t.result ≡ gs)
+FitsWaiting m gs t (f ∷ fs) = (arguments below : List ℕ) × (f.operands ≡ arguments ++ below) × AreOf (reverse t.params) arguments × FitFrames m gs (operands_of t.result) (record f { operands = below } ∷ fs)
 
-abbrev pub FitsCalls : Context → Option ℕ → List Frame → List ℕ → Type 0
-FitsCalls m None frames given = (pushed : List ValType) × AreOf pushed given × FitFrames m pushed frames
-FitsCalls m (Some x) frames given = (t : FuncType) × (func_type m x ≡ Some t) × (given ≡ []) × FitsWaiting m t frames
+abbrev pub FitsCalls : Context → List ValType → Option ℕ → List Frame → List ℕ → Type 0
+FitsCalls m gs None frames given = (pushed : List ValType) × AreOf pushed given × FitFrames m gs pushed frames
+FitsCalls m gs (Some x) frames given = (t : FuncType) × (func_type m x ≡ Some t) × (given ≡ []) × FitsWaiting m gs t frames
 
-pub record FitsConfig (m : Context) (c : Config) : Type 0 where
+-- A configuration, of which the function that was entered gives, or has given, values of the types gs.
+pub record FitsConfig (m : Context) (gs : List ValType) (c : Config) : Type 0 where
   pub store : FitsStore m c.store
-  pub calls : FitsCalls m c.waiting c.frames c.given
+  pub calls : FitsCalls m gs c.waiting c.frames c.given
 
 -- ---- runs
 
@@ -130,9 +131,15 @@ abbrev pub IsNotStuck : Stop → Type 0
 IsNotStuck IsStuck = ⊥
 IsNotStuck stop = Unit {0}
 
--- a run stops for a reason that is the guest's own, in a typed configuration
-abbrev pub RunFits : Context → Config × Stop → Type 0
-RunFits m result = FitsConfig m result.0 × IsNotStuck result.1
+-- what a run has ended with
+abbrev pub Gives : List ValType → Stop → Type 0
+Gives gs (Ended results) = AreOf gs results
+Gives gs stop = Unit {0}
+
+-- A run stops for a reason that is the guest's own, in a typed configuration; where it has ended, its results are of their
+-- types.
+abbrev pub RunFits : Context → List ValType → Config × Stop → Type 0
+RunFits m gs result = FitsConfig m gs result.0 × IsNotStuck result.1 × Gives gs result.1
 
 -- ---- modules
 

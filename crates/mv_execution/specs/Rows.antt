@@ -2,7 +2,7 @@
 --
 -- A row is stuck where what it needs isn't there: an operand, or one of its type, a local, a global, a label. Validated code
 -- is never stuck.
-use Rattle.std.specs.Prelude.{Bool, ℕ, ◌+◌, ◌-◌, ◌*◌, ◌^◌, ◌==◌, List, [], ◌∷◌, ◌++◌, Option, Some, None, Result, Ok, Err, length, drop, take, slice_get, slice_set, slice_range, nat_le, nat_lt, if◌then◌else◌, unwrap_or}
+use Rattle.std.specs.Prelude.{◌≡◌, Bool, ℕ, ◌+◌, ◌-◌, ◌*◌, ◌^◌, ◌==◌, List, [], ◌∷◌, ◌++◌, Option, Some, None, Result, Ok, Err, length, drop, take, slice_get, slice_set, slice_range, nat_le, nat_lt, if◌then◌else◌, unwrap_or}
 use Rattle.mv_calls.specs.declared.trap.Trap.{Trap}
 use Rattle.mv_calls.specs.declared.trap.Trap.TheVariants as trap
 use Rattle.mv_syntax.specs.declared.ops.ValType.{ValType}
@@ -169,3 +169,14 @@ began t b outer f = None
 abbrev pub advanced : Tree → OpenBlock → List OpenBlock → Store → Frame → Next
 advanced (plain i rest) b outer s f = acted i s (record f { blocks = record b { rest = rest } ∷ outer })
 advanced t b outer s f = kept s (began t b outer f)
+
+-- an instruction that goes on or traps, as each of a valid module does
+abbrev pub IsGoing : {A : Type 0} → Out A → Type 0
+IsGoing (Goes next) = Unit {0}
+IsGoing (Traps t) = Unit {0}
+IsGoing Stuck = ⊥
+
+-- what an instruction came to: it went on to this, or trapped, and all is as before
+abbrev pub CameTo : {A : Type 0} → Option Trap → Out A → A → A → Type 0
+CameTo None out old new = out ≡ Goes new
+CameTo (Some t) out old new = (out ≡ Traps t) × (new ≡ old)

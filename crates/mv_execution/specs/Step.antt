@@ -1,11 +1,12 @@
 -- The step of a configuration: the first instruction of the newest call (WebAssembly Core 1.0, 4.4).
 use Rattle.std.specs.Prelude.{ℕ, ◌+◌, List, [], ◌∷◌, ◌++◌, Option, Some, None, length, drop, take, reverse, replicate, slice_get, nat_le, nat_lt, if◌then◌else◌}
+use Rattle.mv_syntax.specs.Types.{same_function_type}
 use Rattle.mv_calls.specs.declared.trap.Trap.TheVariants as trap
 use Rattle.mv_syntax.specs.declared.ops.ValType.TheVariants.{I32}
 use Rattle.mv_syntax.specs.declared.types.FuncType.{FuncType}
 use Rattle.mv_syntax.specs.declared.instr.Instr.TheVariants as instr
 use Rattle.mv_syntax.specs.Tree.{Tree, plain}
-use Rattle.mv_execution.specs.Values.{arity_of, same_function_type}
+use Rattle.mv_execution.specs.Values.{arity_of}
 use Rattle.mv_execution.specs.Config.{Body, Function, Program, OpenBlock, Frame, Config, frame_limit, operand_limit, operand_count}
 use Rattle.mv_execution.specs.Rows.{Out, Goes, Traps, Stuck, Next, popping, advanced}
 

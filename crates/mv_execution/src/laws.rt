@@ -1,5 +1,6 @@
 //! Laws of execution, for the crates above. The functions do nothing; they carry the laws.
 ghost use Rattle.std.specs.Prelude.{List, ℕ, ◌+◌, ◌≡◌, ◌≤◌, [], Some, None, All, length};
+ghost use Rattle.mv_syntax.specs.declared.ops.ValType.{ValType as TypeOfValue};
 ghost use Rattle.mv_syntax.specs.declared.types.FuncType.{FuncType};
 ghost use Rattle.mv_syntax.specs.declared.instr.Instr.{Instr};
 ghost use Rattle.mv_syntax.specs.Kept.{Keeps};
@@ -15,26 +16,28 @@ ghost use Rattle.mv_execution.specs.Rows.{Goes, acted, advanced};
 ghost use Rattle.mv_execution.specs.Rises.{leaves_more, Leaves, LeavesFirst};
 ghost use Rattle.mv_execution.specs.Limits.{result_count, IsWithinLimits};
 ghost use Rattle.mv_execution.specs.Instance.{program_of, new_config, with_element, with_memory};
-ghost use Rattle.mv_execution.specs.Run.{settled, run, gone_on, StandsAt, CountsAt, entered, answered, with_new_gap};
+ghost use Rattle.mv_execution.specs.Run.{settled, run, gone_on, StandsAt, CountsAt, entered, arguments, answered, with_new_gap};
 ghost use Rattle.mv_execution.specs.Fits.{AreOf, FitsProgram, FitsConfig, RunFits, IsTypedModule, module_context};
 
 /// Typed code is never stuck (WebAssembly Core 1.0, 7.5): a run of a typed configuration stops at an imported function, at
 /// its end, by a trap or for want of fuel, never for want of an operand, of one of its type, of a local or of a label, and
 /// the configuration is typed again. So it is where a function is entered, where a call is answered by results of its type,
-/// and with another element, memory or gap.
+/// and with another element, memory or gap. The arguments of a call that waits are of its parameters' types, and what a run has
+/// ended with is of the result's type of the function that was entered.
 ///
 /// A valid module has types, by what the type `Module` keeps, and a module with types begins so: its program, and its
 /// configuration before anything is entered. So a machine made from a valid module needs nothing else.
 pub fn typed_code_is_never_stuck()
     ensures typed { (p : Parts) → Keeps p → IsValid p → IsTypedModule p }
     ensures program { (p : Parts) → IsTypedModule p → FitsProgram (module_context p) (program_of p) }
-    ensures begins { (p : Parts) → IsTypedModule p → FitsConfig (module_context p) (new_config p) }
-    ensures run { (m : Context) (program : Program) (fuel : ℕ) (c : Config) → FitsProgram m program → FitsConfig m c → RunFits m (run program fuel c) }
-    ensures entered { (m : Context) (program : Program) (c : Config) (x : ℕ) (t : FuncType) → FitsProgram m program → FitsConfig m c → c.frames ≡ [] → func_type m x ≡ Some t → t.params ≡ [] → FitsConfig m (entered program x c) }
-    ensures answered { (m : Context) (program : Program) (c : Config) (x : ℕ) (t : FuncType) (results : List ℕ) → FitsProgram m program → FitsConfig m c → c.waiting ≡ Some x → func_type m x ≡ Some t → AreOf (operands_of t.result) results → FitsConfig m (answered program results c) }
-    ensures element { (m : Context) (c : Config) (at x : ℕ) (t : FuncType) → func_type m x ≡ Some t → FitsConfig m c → FitsConfig m (with_element at x c) }
-    ensures memory { (m : Context) (c : Config) (memory : Contents) → All IsByte memory.bytes → page_count memory ≤ page_limit → FitsConfig m c → FitsConfig m (with_memory memory c) }
-    ensures gap { (m : Context) (c : Config) → FitsConfig m c → FitsConfig m (with_new_gap c) }
+    ensures begins { (p : Parts) → IsTypedModule p → FitsConfig (module_context p) [] (new_config p) }
+    ensures run { (m : Context) (gs : List TypeOfValue) (program : Program) (fuel : ℕ) (c : Config) → FitsProgram m program → FitsConfig m gs c → RunFits m gs (run program fuel c) }
+    ensures entered { (m : Context) (gs : List TypeOfValue) (program : Program) (c : Config) (x : ℕ) (t : FuncType) → FitsProgram m program → FitsConfig m gs c → c.frames ≡ [] → func_type m x ≡ Some t → t.params ≡ [] → FitsConfig m (operands_of t.result) (entered program x c) }
+    ensures answered { (m : Context) (gs : List TypeOfValue) (program : Program) (c : Config) (x : ℕ) (t : FuncType) (results : List ℕ) → FitsProgram m program → FitsConfig m gs c → c.waiting ≡ Some x → func_type m x ≡ Some t → AreOf (operands_of t.result) results → FitsConfig m gs (answered program results c) }
+    ensures arguments { (m : Context) (gs : List TypeOfValue) (program : Program) (c : Config) (x : ℕ) (t : FuncType) → FitsProgram m program → FitsConfig m gs c → c.waiting ≡ Some x → func_type m x ≡ Some t → AreOf t.params (arguments program c) }
+    ensures element { (m : Context) (gs : List TypeOfValue) (c : Config) (at x : ℕ) (t : FuncType) → func_type m x ≡ Some t → FitsConfig m gs c → FitsConfig m gs (with_element at x c) }
+    ensures memory { (m : Context) (gs : List TypeOfValue) (c : Config) (memory : Contents) → All IsByte memory.bytes → page_count memory ≤ page_limit → FitsConfig m gs c → FitsConfig m gs (with_memory memory c) }
+    ensures gap { (m : Context) (gs : List TypeOfValue) (c : Config) → FitsConfig m gs c → FitsConfig m gs (with_new_gap c) }
 {}
 
 /// An instruction that calls nothing leaves one operand more than it finds where it is a constant, or gives a local, a

@@ -1,5 +1,6 @@
 -- One instruction over flat code is one instruction over trees.
 use Rattle.std.proofs.Common.{true, false, cond, Bool, ◌≡◌, ℕ, ◌+◌, ◌-◌, ◌<◌, List, [], ◌∷◌, ◌++◌, length, take, drop, get_or, Option, Some, None, refl, sym, ap, ◌∙◌, arith, subst, ⊎_elim, inl, inr}
+use Rattle.mv_syntax.specs.Expressions.{is_plain}
 use Rattle.std.proofs.lemmas.List.{length-reverse, reverse-append}
 use Rattle.std.specs.Prelude.{slice_get, ◌⊎◌, ◌==◌, reverse, is_some, IsSome, OnOk, OnErr, Result, Ok, Err, is_err}
 use Rattle.std.specs.declared.alloc.AllocError.{AllocError}
@@ -12,14 +13,14 @@ use Rattle.mv_syntax.specs.declared.ops.ValType.TheVariants.{I32}
 use Rattle.mv_syntax.specs.declared.instr.Instr.{Instr}
 use Rattle.mv_syntax.specs.declared.instr.Instr.TheVariants.{Block, Loop, If, Else, End}
 use Rattle.mv_syntax.specs.Tree.{Tree, done, plain, block, loop, choice, Rest, rest_of, rests_at, in_front, followed, opened, chosen, joined, elsed, with_other, other_of, IsOpen}
-use Rattle.mv_syntax.specs.TreeLaws.{behind-at, without-some, within-code}
+use Rattle.mv_syntax.proofs.TreeLaws.{behind-at, without-some, within-code}
 use Rattle.mv_frames.proofs.Lists.{reverse-last}
 use Rattle.mv_frames.specs.declared.frame.Label.{Label}
 use Rattle.mv_frames.specs.declared.frame.Frame.{Frame as FlatFrame}
 use Rattle.mv_execution.specs.Config.{OpenBlock, Frame}
 use Rattle.mv_execution.specs.Rows.{began}
 use Rattle.mv_execution.specs.Values.{is_of, arity_of}
-use Rattle.mv_frames.specs.Blocks.{began_block, is_plain, closed, closed_in}
+use Rattle.mv_frames.specs.Blocks.{began_block, closed, closed_in}
 use Rattle.mv_execution.specs.Instance.{first_tree}
 use Rattle.mv_frames.specs.Frames.{left_at, block_of, blocks_of, frame_of, IsStart, ArePlaced, IsPlaced}
 use Rattle.mv_frames.proofs.Branches.{left-is, frame-is}

@@ -1,17 +1,17 @@
 -- Instructions over flat code: those that begin a block, and those that begin none.
 use Rattle.std.proofs.Common.{true, false, ◌≡◌, ◌+◌, ◌<◌, List, [], ◌∷◌, length, get_or, Option, Some, None, refl, sym, ap, ◌∙◌, arith, subst}
 use Rattle.std.specs.Prelude.{reverse, IsSome}
-use Rattle.mv_syntax.specs.TreeLaws.{behind-at}
+use Rattle.mv_syntax.proofs.TreeLaws.{behind-at}
 use Rattle.mv_syntax.specs.declared.ops.ValType.{ValType}
 use Rattle.mv_syntax.specs.declared.instr.Instr.{Instr}
 use Rattle.mv_syntax.specs.declared.instr.Instr.TheVariants.{Block, Loop, If, Else, End, Call, CallIndirect, Load, Store}
 use Rattle.mv_syntax.specs.Tree.{Tree, done, plain, block, loop, choice, other_of}
 use Rattle.mv_execution.specs.Config.{Store as TreeStore, OpenBlock, Frame}
-use Rattle.mv_execution.specs.Rows.{Goes, Stuck, Next, kept, acted, began, advanced}
+use Rattle.mv_execution.specs.Rows.{Goes, Stuck, Next, kept, acted, began, advanced, IsGoing}
 use Rattle.mv_frames.specs.declared.frame.Frame.{Frame as FlatFrame}
-use Rattle.mv_frames.specs.Blocks.{is_plain, acts, is_access, starts_block, began_block, advanced_frame}
+use Rattle.mv_frames.specs.Blocks.{acts, is_access, starts_block, began_block, advanced_frame}
 use Rattle.mv_frames.specs.Frames.{left_at, block_of, blocks_of, frame_of, IsPlaced}
-use Rattle.mv_frames.specs.Stores.{IsGoing}
+use Rattle.mv_syntax.specs.Expressions.{is_plain}
 use Rattle.mv_frames.proofs.Advances.{Top, top, moved, skip, reads-as, tree-end, tree-else, advanced-at, front-opened, front-chosen}
 
 frame-at : (s : TreeStore) (f : Frame) (b : OpenBlock) (outer : List OpenBlock) → f.blocks ≡ b ∷ outer → advanced_frame s f ≡ advanced b.rest b outer s f

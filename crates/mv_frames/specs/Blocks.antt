@@ -5,19 +5,11 @@ use Rattle.mv_syntax.specs.declared.instr.Instr.TheVariants.{Block, Loop, If, El
 use Rattle.mv_syntax.specs.Tree.{Tree, done}
 use Rattle.mv_execution.specs.Config.{Store as TreeStore, OpenBlock, Frame}
 use Rattle.mv_execution.specs.Rows.{Stuck, Next, began, advanced}
+use Rattle.mv_syntax.specs.Expressions.{is_plain}
 
 -- the block in front of what is left of the innermost one begins
 abbrev pub began_block : Frame → Option Frame
 began_block f = elim f.blocks [ [] ↦ None | b ∷ outer ↦ began b.rest b outer f ]
-
--- an instruction that begins and ends no list
-abbrev pub is_plain : Instr → Bool
-is_plain (Block t) = false
-is_plain (Loop t) = false
-is_plain (If t) = false
-is_plain Else = false
-is_plain End = false
-is_plain i = true
 
 -- A list of instructions that is at its end leaves its block. This is not counted.
 abbrev pub closed_in : Tree → List OpenBlock → Frame → Option Frame

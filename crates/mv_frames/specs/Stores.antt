@@ -7,13 +7,3 @@ use Rattle.mv_execution.specs.Rows.{Goes, Traps, Stuck, Next}
 
 abbrev pub store_of : FlatStore → Store
 store_of s = record { memory = s.memory; globals = s.globals.items; table = s.table.items }
-
-abbrev pub IsGoing : Next → Type 0
-IsGoing (Goes next) = Unit {0}
-IsGoing (Traps t) = Unit {0}
-IsGoing Stuck = ⊥
-
--- what an instruction came to: it went on to this store and frame, or trapped, and all is as before
-abbrev pub CameTo : Option Trap → Next → Store × Frame → Store × Frame → Type 0
-CameTo None next old new = next ≡ Goes new
-CameTo (Some t) next old new = (next ≡ Traps t) × (new ≡ old)

@@ -3,10 +3,10 @@
 ghost use Rattle.std.specs.Prelude.{◌≡◌, true, ◌∷◌, ◌+◌, ◌*◌, ◌^◌, ◌<◌, OnOk, OnErr, IfOk, IfSome};
 ghost use Rattle.mv_arith.specs.Integers.{signed as signed_number, wrapped};
 ghost use Rattle.mv_execution.specs.Values.{is_width};
-ghost use Rattle.mv_execution.specs.Rows.{acted, extended};
+ghost use Rattle.mv_execution.specs.Rows.{acted, extended, IsGoing, CameTo};
 ghost use Rattle.mv_frames.specs.Blocks.{is_access};
 ghost use Rattle.mv_frames.specs.Frames.{frame_of, IsPlaced};
-ghost use Rattle.mv_frames.specs.Stores.{store_of, IsGoing, CameTo};
+ghost use Rattle.mv_frames.specs.Stores.{store_of};
 
 use crate::frame::{Frame, pop, replace_top, second, top};
 use crate::store::Store;

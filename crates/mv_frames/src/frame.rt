@@ -222,7 +222,8 @@ pub fn leave_blocks(code: &[Instr], frame: &mut Frame)
 fn new_locals(alloc: Global, arguments: &[u64], more: usize) -> Result<Vec<u64>, AllocError>
     ensures { IfOk result (λ v. v.items ≡ arguments.now ++ replicate more 0) }
 {
-    let mut locals = Vec::from_slice(alloc, arguments)?;
+    let mut locals = Vec::with_capacity(alloc, arguments.len().saturating_add(more))?;
+    locals.extend_from_slice(arguments)?;
     for _ in 0..more {
         locals.push(0)?;
     }
@@ -242,7 +243,7 @@ pub fn new_call(
     ensures placed { IfOk result (IsPlaced callee.now.code) }
     ensures func { IfOk result (λ frame. frame.func ≡ func) }
 {
-    let locals = new_locals(alloc, arguments, callee.locals.slice().len())?;
+    let locals = new_locals(alloc, arguments, callee.locals.len())?;
     let carries = ftype.result.is_some();
     let mut labels = Vec::new(alloc);
     labels.push(Label {

@@ -1,10 +1,10 @@
 //! Instructions that begin no block and call nothing.
 
 ghost use Rattle.std.specs.Prelude.{◌≡◌, true, ◌∷◌, ◌+◌, ◌≤◌, ◌<◌, OnOk, OnErr, IfOk, IfSome, Some, vec_len, slice_get, unwrap_or};
-ghost use Rattle.mv_execution.specs.Rows.{acted};
+ghost use Rattle.mv_execution.specs.Rows.{acted, IsGoing, CameTo};
 ghost use Rattle.mv_frames.specs.Frames.{frame_of, IsPlaced};
 ghost use Rattle.mv_frames.specs.Blocks.{acts};
-ghost use Rattle.mv_frames.specs.Stores.{store_of, IsGoing, CameTo};
+ghost use Rattle.mv_frames.specs.Stores.{store_of};
 
 use crate::frame::{Frame, branch, leave_blocks, pop, push, replace_top, second, top};
 use crate::store::Store;

@@ -1,10 +1,10 @@
 //! One counted instruction of a call.
 
 ghost use Rattle.std.specs.Prelude.{◌≡◌, true, false, ◌+◌, ◌<◌, length, IfOk, IfSome, OnErr};
-ghost use Rattle.mv_execution.specs.Rows.{acted};
+ghost use Rattle.mv_execution.specs.Rows.{acted, IsGoing, CameTo};
 ghost use Rattle.mv_frames.specs.Blocks.{acts, is_access, starts_block, advanced_frame};
 ghost use Rattle.mv_frames.specs.Frames.{frame_of, IsPlaced};
-ghost use Rattle.mv_frames.specs.Stores.{store_of, IsGoing, CameTo};
+ghost use Rattle.mv_frames.specs.Stores.{store_of};
 
 use crate::access::run_access;
 use crate::frame::{Frame, begin_block};

@@ -1,5 +1,5 @@
 -- What the calls of a running guest do to where it stands.
-use Rattle.std.proofs.Common.{true, false, Bool, ◌≡◌, ℕ, zero, suc, ◌+◌, ◌-◌, ◌<◌, ◌≤◌, List, [], ◌∷◌, Option, Some, None, refl, sym, ap, ◌∙◌, subst, arith}
+use Rattle.std.proofs.Common.{false, Bool, ◌≡◌, ℕ, ◌-◌, List, [], ◌∷◌, Option, Some, None, refl, sym, ap, ◌∙◌, subst}
 use Rattle.mv_calls.specs.declared.calls.Call.{Call}
 use Rattle.mv_calls.specs.declared.calls.Reply.{Reply}
 use Rattle.mv_calls.specs.declared.trap.Trap.{Trap}
@@ -14,7 +14,7 @@ use Rattle.mv_version.specs.declared.event.Event.{Event}
 use Rattle.mv_version.specs.declared.event.Event.TheVariants.{Calls, Point, Ends, Traps}
 use Rattle.mv_guest.specs.Events.{next_event}
 use Rattle.mv_guest.specs.Standing.{Standing, standing, stands_from, passed, replied, unready, after}
-use Rattle.mv_guest.specs.Advances.{SameNext, IsMetAgain}
+use Rattle.mv_guest.specs.Advances.{IsMetAgain}
 use Rattle.mv_wasi.specs.declared.made.Made.TheVariants.{Outside}
 use Rattle.mv_wasi.specs.Known.{AreKnown, IsWaitingFor, IsMadeThere}
 use Rattle.mv_wasi.specs.Readies.{IsReadyFor, function_called}

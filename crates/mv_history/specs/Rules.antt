@@ -11,13 +11,13 @@ abbrev pub no_rules_text : List ℕ
 no_rules_text = codes "mvrules 1\n"
 
 -- the file spells these rules, and they keep what is read and accepted
-pub record Spells (text : List ℕ) (rules : List Rule) : Type 0 where
+pub record SpellsKept (text : List ℕ) (rules : List Rule) : Type 0 where
   pub spelled : rules_in text ≡ Ok rules
   pub kept : AreKept rules
 
 -- the file is accepted
 abbrev pub IsAccepted : List ℕ → Type 0
-IsAccepted text = (rules : List Rule) × Spells text rules
+IsAccepted text = (rules : List Rule) × SpellsKept text rules
 
 -- the file is refused with this fault: it spells no rules, or its rules don't keep what is read and accepted
 abbrev pub IsRefused : List ℕ → RuleFault → Type 0

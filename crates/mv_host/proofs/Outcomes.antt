@@ -16,6 +16,7 @@ use Rattle.mv_core.specs.Whole.{Seen, Whole, seen}
 use Rattle.mv_rehearse.proofs.Results.{did_calls, has_ended, legal_run, orders_answered}
 use Rattle.mv_rehearse.specs.Linked.{LineWaits}
 use Rattle.mv_rehearse.specs.Runs.{end_status}
+use Rattle.mv_rehearse.specs.declared.outcome.ExitStatus.{ExitStatus}
 use Rattle.mv_host.specs.Served.{IsServed}
 
 -- the last entry is the end of the status
@@ -35,10 +36,10 @@ module _ {V K C F : Type 0} (b : Behaviour V) (began : Began) (done : K → Opti
   abbrev whole_seen : Whole K C F → Seen
   whole_seen w = seen done kernel_faults coming said console_faults content files_faults w
 
-  abbrev Comes : ℕ → K → C → F → Log → Type 0
+  abbrev Comes : ExitStatus → K → C → F → Log → Type 0
   Comes status kernel console files log = IsServed b began done kernel_faults coming said console_faults content files_faults (record { status = status; kernel = kernel; console = console; files = files; log = log })
 
-  served_core : (w : Whole K C F) (h : How) (status : ℕ) → IsKept b began (whole_seen w) → w.status.ended ≡ Some h → is_cut w.status.ended ≡ false → LineWaits w.status w.line → w.orders ≡ true → status ≡ end_status h →
+  served_core : (w : Whole K C F) (h : How) (status : ExitStatus) → IsKept b began (whole_seen w) → w.status.ended ≡ Some h → is_cut w.status.ended ≡ false → LineWaits w.status w.line → w.orders ≡ true → status ≡ end_status h →
       Comes status w.kernel w.console w.files w.log
   served_core w h status kept ended uncut line asks is =
       record {
@@ -51,7 +52,7 @@ module _ {V K C F : Type 0} (b : Behaviour V) (began : Began) (done : K → Opti
       }
 
   -- and with its parts, as they are handed out
-  pub served : (w : Whole K C F) (h : How) (status : ℕ) (kernel : K) (console : C) (files : F) (log : Log) → kernel ≡ w.kernel → console ≡ w.console → files ≡ w.files → log ≡ w.log →
+  pub served : (w : Whole K C F) (h : How) (status : ExitStatus) (kernel : K) (console : C) (files : F) (log : Log) → kernel ≡ w.kernel → console ≡ w.console → files ≡ w.files → log ≡ w.log →
       IsKept b began (whole_seen w) → w.status.ended ≡ Some h → is_cut w.status.ended ≡ false → LineWaits w.status w.line → w.orders ≡ true → status ≡ end_status h → Comes status kernel console files log
   served w h status kernel console files log k c f l kept ended uncut line asks is =
       subst (λ x. Comes status x console files log) (sym k)

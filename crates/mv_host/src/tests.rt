@@ -9,6 +9,7 @@ use super::*;
 use mv_calls::{Bytes, Call, Or, OutOfMemory, Reply, Room, Texts};
 use mv_history::{Entry, Log, Mark, Start};
 use mv_outside::{Failed, FileAt, FreeGate, Gate, Kernel, MemConsole, MemFiles, paths_differ};
+use mv_rehearse::ExitStatus;
 use mv_syntax::BornFault;
 use mv_version::{Event, Version};
 use std::alloc::Global;
@@ -275,7 +276,7 @@ fn a_version_is_promoted_on_two_threads(rt: HostRuntime) -> Result<(), Fail> {
             4,
             &FreeGate::new(),
         );
-        assert_eq!(rt; outcome.status, 0);
+        assert_eq!(rt; outcome.status, ExitStatus::Success);
         assert!(rt; counters.come_to(20));
         assert!(rt; followers(&outcome.log) == (1, 1));
     }
@@ -311,7 +312,7 @@ fn each_activity_waits_for_the_other(rt: HostRuntime) -> Result<(), Fail> {
         256,
         &gate,
     );
-    assert_eq!(rt; outcome.status, 0);
+    assert_eq!(rt; outcome.status, ExitStatus::Success);
     assert!(rt; counters.come_to(20));
     Ok(())
 }
@@ -345,7 +346,7 @@ fn the_follower_steps_while_a_call_is_done(rt: HostRuntime) -> Result<(), Fail> 
         256,
         &gate,
     );
-    assert_eq!(rt; outcome.status, 0);
+    assert_eq!(rt; outcome.status, ExitStatus::Success);
     assert!(rt; counters.come_to(20));
     Ok(())
 }

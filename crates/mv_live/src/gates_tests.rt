@@ -181,7 +181,7 @@ fn each_activity_of_the_program_waits_for_the_other(rt: HostRuntime) -> Result<(
         &gate,
         &mut sink,
     );
-    assert_eq!(rt; came.status, 0);
+    assert_eq!(rt; came.status.code(), 0);
     assert_eq!(rt; counters.limits.load(Ordering::SeqCst), 0);
     assert!(rt; are_calls(came.kernel.done(), 6));
     assert!(rt; followers(came.log.entries.slice()) == (1, 1));
@@ -220,7 +220,7 @@ fn the_follower_steps_while_the_program_does_a_call(rt: HostRuntime) -> Result<(
         &gate,
         &mut sink,
     );
-    assert_eq!(rt; came.status, 0);
+    assert_eq!(rt; came.status.code(), 0);
     assert_eq!(rt; counters.limits.load(Ordering::SeqCst), 0);
     assert!(rt; are_calls(came.kernel.inner.done(), 6));
     assert!(rt; followers(came.log.entries.slice()) == (1, 0));
@@ -281,7 +281,7 @@ fn failures_outside_show_where_the_program_serves(rt: HostRuntime) -> Result<(),
             &FreeGate::new(),
             &mut sink,
         );
-        assert_eq!(rt; came.status, status);
+        assert_eq!(rt; came.status.code(), status);
         assert!(rt; are_calls(came.kernel.done(), calls));
         assert!(rt; followers(came.log.entries.slice()) == made);
         let heard = came.console.said();

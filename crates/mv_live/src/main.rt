@@ -9,6 +9,8 @@ mod gates_tests;
 #[cfg(test)]
 mod log_texts;
 #[cfg(test)]
+mod modules_tests;
+#[cfg(test)]
 mod objects_tests;
 #[cfg(test)]
 mod poll_tests;
@@ -18,10 +20,12 @@ mod rows_tests;
 mod server_tests;
 #[cfg(test)]
 mod tests;
+#[cfg(test)]
+mod valid_tests;
 mod writer_sink;
 
 use disk_files::DiskFiles;
-use mv_commands::program;
+use mv_commands::{ExitStatus, program};
 use mv_kernnet::{NetConsole, NetKernel};
 use mv_outside::FreeGate;
 use mv_words::places;
@@ -31,16 +35,13 @@ use std::rt::Env;
 use std::{env, io};
 use writer_sink::WriterSink;
 
-/// The status for want of memory.
-const NO_MEMORY: u8 = 9;
-
 fn main(rt: HostRuntime) -> ExitCode {
     let alloc = rt.alloc();
     let Ok(words) = words_of(&rt, alloc) else {
-        return ExitCode::from(NO_MEMORY);
+        return ExitCode::from(ExitStatus::NoMemory.code());
     };
     let Ok(addresses) = places(alloc, words.as_slice()) else {
-        return ExitCode::from(NO_MEMORY);
+        return ExitCode::from(ExitStatus::NoMemory.code());
     };
     let mut out = WriterSink::new(rt.stdout());
     let outcome = program(
@@ -60,7 +61,7 @@ fn main(rt: HostRuntime) -> ExitCode {
         &FreeGate::new(),
         &mut out,
     );
-    ExitCode::from(outcome.status)
+    ExitCode::from(outcome.status.code())
 }
 
 /// The words behind the program's name. Where one isn't UTF-8 there are none, so they are refused.

@@ -176,7 +176,7 @@ fn carried(
     let mut sink = VecSink::new(alloc, list(alloc, row.fails.print)?);
     let came = carry_out(alloc, said.as_slice(), kernel, console, files, &mut sink);
     Ok(Left {
-        status: came.status,
+        status: came.status.code(),
         printed: Vec::from_slice(alloc, sink.bytes())?,
         log: log_text(alloc, came.log.entries.slice())?,
         done: done_text(alloc, came.kernel.done())?,
@@ -491,7 +491,7 @@ fn a_full_log_ends_its_run(rt: HostRuntime) -> Result<(), Fail> {
     let (kernel, console) = (kernel(alloc, &[], None)?, console(alloc, &[], None, None)?);
     let mut sink = VecSink::new(alloc, Vec::new(alloc));
     let came = carry_out(alloc, said.as_slice(), kernel, console, files, &mut sink);
-    assert!(rt; came.status == 10 && sink.bytes() == b"log limit\n".as_slice());
+    assert!(rt; came.status.code() == 10 && sink.bytes() == b"log limit\n".as_slice());
     let entries = came.log.entries.slice();
     assert!(rt; entries.len() == 999_991 && points(entries) == 999_990 && is_full(entries));
     Ok(())

@@ -262,7 +262,7 @@ fn rehearsed(rt: &impl Abort, alloc: Global, orders: &[(usize, &str)]) -> Result
         &mut sink,
     );
     Ok(Shown {
-        status: came.status,
+        status: came.status.code(),
         line: Vec::from_slice(alloc, sink.bytes())?,
         marks: marks(alloc, came.log.entries.slice())?,
         said: said(alloc, came.kernel.done())?,

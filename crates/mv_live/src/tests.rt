@@ -150,7 +150,7 @@ fn row_of(
     let mut sink = VecSink::new(alloc, list(alloc, asked.print)?);
     let came = carry_out(alloc, said.as_slice(), kernel, console, files, &mut sink);
     Ok(Shown {
-        status: came.status,
+        status: came.status.code(),
         line: Vec::from_slice(alloc, sink.bytes())?,
         log: letters(alloc, came.log.entries.slice())?,
         done: came.kernel.done().len(),
@@ -675,7 +675,7 @@ fn carried(alloc: Global, said: &[&str], order: &str, files: MemFiles) -> Result
     let mut sink = VecSink::new(alloc, Vec::new(alloc));
     let came = carry_out(alloc, said.as_slice(), kernel, console, files, &mut sink);
     Ok(Left {
-        status: came.status,
+        status: came.status.code(),
         printed: Vec::from_slice(alloc, sink.bytes())?,
         files: came.files,
     })
@@ -802,7 +802,7 @@ fn of_program<R: Threads + Wait + Sync>(
         &mut sink,
     );
     Ok(Shown {
-        status: came.status,
+        status: came.status.code(),
         line: Vec::from_slice(alloc, sink.bytes())?,
         log: letters(alloc, came.log.entries.slice())?,
         done: came.kernel.done().len(),

@@ -12,6 +12,7 @@ use Rattle.mv_history.specs.declared.log.Log.{Log}
 use Rattle.mv_core.specs.Found.{AreFilesKept}
 use Rattle.mv_rehearse.specs.Runs.{DidCalls, HasEnded, IsLegalRun, OrdersAnswered}
 use Rattle.mv_rehearse.specs.declared.beats.Beat.{Beat}
+use Rattle.mv_rehearse.specs.declared.outcome.ExitStatus.{ExitStatus}
 use Rattle.mv_load.specs.Connections.{connections}
 use Rattle.mv_load.specs.Files.{load_files}
 use Rattle.mv_load.specs.Loads.{IsRehearsal, IsRunOf, load_began}
@@ -32,7 +33,7 @@ pub begins : (start : List ℕ) (args : List (List ℕ)) (script : Script) (kern
     record { start = start; args = args; done = Some kernel.done; coming = Some console.coming; said = Some console.said; files = Some (file_at files.files); kernel_faults = kernel.faults; console_faults = console.faults; files_faults = files.faults } ≡ load_began
 begins start args script kernel console files a b k c f = rw (a, b, k.done, k.faults, c, f) refl
 
-module _ {V : Type 0} (b : Behaviour V) (script : Script) (beats : List Beat) (log : Log) (began : Began) (kernel : KernelState) (console : ConsoleState) (given files : FilesState) (status : ℕ) where
+module _ {V : Type 0} (b : Behaviour V) (script : Script) (beats : List Beat) (log : Log) (began : Began) (kernel : KernelState) (console : ConsoleState) (given files : FilesState) (status : ExitStatus) where
   -- a run that began so is one of a load
   pub run_of : began ≡ load_began → given ≡ load_files → IsRehearsal b began 256 beats log → IsLegalRun b began log → DidCalls began log.entries.list (Some kernel.done) kernel.faults → IsPlayed script kernel →
       OrdersAnswered began log.entries.list (Some console.coming) (Some console.said) console.faults → AreFilesKept (Some (file_at given.files)) given.faults log.entries.list log.updates.list (Some (file_at files.files)) files.faults →

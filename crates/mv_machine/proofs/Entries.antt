@@ -5,6 +5,7 @@ use Rattle.std.proofs.lemmas.Bool.{ltb-false, le-ltb, le-leb, lt-leb}
 use Rattle.std.proofs.lemmas.List.{length-reverse, length-map, length-take, take-take, reverse-reverse, reverse-append, set-append_left, drop-take}
 use Rattle.std.proofs.lemmas.Option.{get_or_from_slice_get}
 use Rattle.mv_calls.specs.declared.trap.Trap.TheVariants as trap
+use Rattle.mv_syntax.specs.declared.ops.ValType.{ValType}
 use Rattle.mv_syntax.specs.declared.types.FuncType.{FuncType}
 use Rattle.mv_syntax.specs.declared.module.Func.{Func}
 use Rattle.mv_syntax.specs.declared.instr.Instr.{Instr}
@@ -14,20 +15,20 @@ use Rattle.mv_syntax.specs.Sections.{Parts}
 use Rattle.mv_validator.specs.Valid.{IsValid}
 use Rattle.mv_validator.specs.Typing.{Context}
 use Rattle.mv_execution.specs.Config.{Body, Function, Program, OpenBlock, Frame, Config, frame_limit, operand_count}
-use Rattle.mv_execution.specs.Rows.{Out, Goes, Traps, Stuck}
+use Rattle.mv_execution.specs.Rows.{Out, Goes, Traps, Stuck, IsGoing}
 use Rattle.mv_execution.specs.Step.{entry_frame, without_operands, begun, invoked, called, called_indirect, row, step_of}
 use Rattle.mv_execution.specs.Instance.{program_of, defined, tree_of}
 use Rattle.mv_execution.specs.Fits.{AreOf, FitsProgram, FitFrames, FitsCalls, FitsConfig, module_context}
 use Rattle.mv_execution.proofs.Steps.{StepFits, FitsReady, step-fits}
 use Rattle.mv_frames.specs.declared.frame.Label.{Label}
 use Rattle.mv_frames.specs.declared.frame.Frame.{Frame as FlatFrame}
-use Rattle.mv_frames.specs.Blocks.{is_plain}
+use Rattle.mv_syntax.specs.Expressions.{is_plain}
 use Rattle.mv_frames.specs.Frames.{left_at, block_of, blocks_of, frame_of, IsPlaced}
 use Rattle.mv_frames.proofs.Lists.{reverse-take, reverse-drop}
 use Rattle.mv_frames.proofs.Advances.{Top, top, skip, moved}
 use Rattle.mv_machine.specs.declared.state.State.{State}
 use Rattle.mv_machine.specs.States.{code_at, call_of, calls_of, ArePlacedIn, values_of, config_of, IsFine}
-use Rattle.mv_machine.specs.Turns.{IsReady, AreReady, IsGoing, counted_step}
+use Rattle.mv_machine.specs.Turns.{IsReady, AreReady, counted_step}
 use Rattle.mv_machine.specs.Calls.{tree_behind, blocks_behind, frame_behind, call_above_in, call_above, IsAt, IsAtIn}
 use Rattle.mv_machine.proofs.Newest.{Newest, calls-are, newest-placed}
 
@@ -87,32 +88,32 @@ none-pushed : (ts : _) → AreOf ts [] → ts ≡ []
 none-pushed [] h = refl
 none-pushed (t ∷ ts) h = absurd h
 
-ready-frames : (m : Context) (frames : List Frame) (given : List ℕ) → given ≡ [] → AreReady frames → FitFrames m [] frames → FitsReady m None frames given
-ready-frames m [] given g r h = absurd r
-ready-frames m (f ∷ fs) given g r h = (g, h, r)
+ready-frames : (m : Context) (gs : List ValType) (frames : List Frame) (given : List ℕ) → given ≡ [] → AreReady frames → FitFrames m gs [] frames → FitsReady m gs None frames given
+ready-frames m gs [] given g r h = absurd r
+ready-frames m gs (f ∷ fs) given g r h = (g, h, r)
 
 -- a typed configuration that is ready is one that a step is typed from
-pub ready-fits : (m : Context) (c : Config) → FitsConfig m c → IsReady c → FitsReady m None c.frames c.given
-ready-fits m c h r =
-    let k : FitsCalls m None c.frames [] = subst (λ g. FitsCalls m None c.frames g) r.given (subst (λ w. FitsCalls m w c.frames c.given) r.waiting h.calls) in
-    ready-frames m c.frames c.given r.given r.calls (subst (λ ts. FitFrames m ts c.frames) (none-pushed k.0 k.1) k.2)
+pub ready-fits : (m : Context) (gs : List ValType) (c : Config) → FitsConfig m gs c → IsReady c → FitsReady m gs None c.frames c.given
+ready-fits m gs c h r =
+    let k : FitsCalls m gs None c.frames [] = subst (λ g. FitsCalls m gs None c.frames g) r.given (subst (λ w. FitsCalls m gs w c.frames c.given) r.waiting h.calls) in
+    ready-frames m gs c.frames c.given r.given r.calls (subst (λ ts. FitFrames m gs ts c.frames) (none-pushed k.0 k.1) k.2)
 
-frames-step : (m : Context) (program : Program) (c : Config) (frames : List Frame) → FitsProgram m program → FitsConfig m c → c.waiting ≡ None → AreReady frames → FitsReady m None frames c.given → StepFits m (step_of program c frames)
-frames-step m program c [] p h w r k = absurd r
-frames-step m program c (f ∷ fs) p h w r k = step-fits m program p c f fs h.store w k
+frames-step : (m : Context) (gs : List ValType) (program : Program) (c : Config) (frames : List Frame) → FitsProgram m program → FitsConfig m gs c → c.waiting ≡ None → AreReady frames → FitsReady m gs None frames c.given → StepFits m gs (step_of program c frames)
+frames-step m gs program c [] p h w r k = absurd r
+frames-step m gs program c (f ∷ fs) p h w r k = step-fits m gs program p c f fs h.store w k
 
 -- an instruction of a fine state is never stuck, and what it comes to is typed
-pub fine-step : (p : Parts) (s : State) → IsFine p s → IsReady (config_of p s) → StepFits (module_context p) (counted_step (program_of p) (config_of p s))
+pub fine-step : (p : Parts) (s : State) (h : IsFine p s) → IsReady (config_of p s) → StepFits (module_context p) h.gives (counted_step (program_of p) (config_of p s))
 fine-step p s h r =
-    frames-step (module_context p) (program_of p) (config_of p s) (calls_of p.funcs s.frames.items) h.program h.typed r.waiting r.calls (ready-fits (module_context p) (config_of p s) h.typed r)
+    frames-step (module_context p) h.gives (program_of p) (config_of p s) (calls_of p.funcs s.frames.items) h.program h.typed r.waiting r.calls (ready-fits (module_context p) h.gives (config_of p s) h.typed r)
 
-pub fits-going : (m : Context) (o : Out Config) → StepFits m o → IsGoing o
-fits-going m (Goes next) h = tt
-fits-going m (Traps t) h = tt
-fits-going m Stuck h = absurd h
+pub fits-going : (m : Context) (gs : List ValType) (o : Out Config) → StepFits m gs o → IsGoing o
+fits-going m gs (Goes next) h = tt
+fits-going m gs (Traps t) h = tt
+fits-going m gs Stuck h = absurd h
 
-pub fits-next : (m : Context) (o : Out Config) (next : Config) → o ≡ Goes next → StepFits m o → FitsConfig m next
-fits-next m o next e h = subst (StepFits m) e h
+pub fits-next : (m : Context) (gs : List ValType) (o : Out Config) (next : Config) → o ≡ Goes next → StepFits m gs o → FitsConfig m gs next
+fits-next m gs o next e h = subst (StepFits m gs) e h
 
 -- ---- the newest call of a state
 

@@ -1,5 +1,6 @@
 -- One instruction of the newest call of the code is one over trees.
 use Rattle.std.proofs.Common.{true, false, cond, Bool, ◌≡◌, ℕ, zero, suc, ◌+◌, ◌<◌, List, [], ◌∷◌, length, get_or, Option, Some, None, refl, sym, ap, ◌∙◌, subst, arith, length-append}
+use Rattle.mv_syntax.specs.Types.{same_function_type}
 use Rattle.std.proofs.lemmas.List.{length-map, length-reverse}
 use Rattle.std.proofs.lemmas.Option.{slice_get-get_or}
 use Rattle.std.specs.Prelude.{reverse, map, nat_lt, nat_le, slice_get, Result, Ok, Err, IfOk}
@@ -13,9 +14,9 @@ use Rattle.mv_syntax.specs.declared.instr.Instr.TheVariants.{Call, CallIndirect}
 use Rattle.mv_syntax.specs.declared.module.Func.{Func}
 use Rattle.mv_syntax.specs.Sections.{Parts}
 use Rattle.mv_syntax.specs.Tree.{Tree, plain}
-use Rattle.mv_execution.specs.Values.{is_of, arity_of, same_function_type}
+use Rattle.mv_execution.specs.Values.{is_of, arity_of}
 use Rattle.mv_execution.specs.Config.{Body, Function, Program, OpenBlock, Frame, Config, frame_limit, operand_limit, operand_count}
-use Rattle.mv_execution.specs.Rows.{Out, Goes, Traps, Stuck, Next, advanced}
+use Rattle.mv_execution.specs.Rows.{Out, Goes, Traps, Stuck, Next, advanced, IsGoing, CameTo}
 use Rattle.mv_execution.specs.Step.{went, without_operands, begun, invoked, called, called_as, called_entry, called_indirect, row, step_of}
 use Rattle.mv_execution.specs.Instance.{program_of, imported, defined}
 use Rattle.mv_execution.specs.Fits.{module_context}
@@ -23,7 +24,7 @@ use Rattle.mv_frames.specs.declared.frame.Frame.{Frame as FlatFrame}
 use Rattle.mv_frames.proofs.Advances.{Top, at-within}
 use Rattle.mv_machine.specs.declared.state.State.{State}
 use Rattle.mv_machine.specs.States.{code_at, call_of, config_of, IsFine}
-use Rattle.mv_machine.specs.Turns.{AreReady, IsReady, IsGoing, CameTo, counted_step}
+use Rattle.mv_machine.specs.Turns.{AreReady, IsReady, counted_step}
 use Rattle.mv_machine.specs.Calls.{frame_behind, call_above_in, call_above, calls_nothing, IsAtIn, IsAt, HasFunction}
 use Rattle.mv_machine.proofs.Newest.{Newest, calls-are}
 use Rattle.mv_machine.proofs.Entries.{fine-step, fits-going, stands-at, step-call}
@@ -157,7 +158,7 @@ module _ (p : Parts) (s : State) (n : ℕ) (f : FlatFrame) (t : Newest s.frames.
   call-step i is x e = step-call p s n f t x (stands-at p s n f t (Call x) h r (read-here i is ∙ ap Some e) refl)
 
   pub call-going : (i : Instr) → i ≡ get_or (code_at p.funcs f.func) f.at i → (x : ℕ) → i ≡ Call x → IsGoing (call_above (program_of p) x 0 (config_of p s))
-  call-going i is x e = subst IsGoing (call-step i is x e) (fits-going (module_context p) (counted_step (program_of p) (config_of p s)) (fine-step p s h r))
+  call-going i is x e = subst IsGoing (call-step i is x e) (fits-going (module_context p) h.gives (counted_step (program_of p) (config_of p s)) (fine-step p s h r))
 
   pub call-there : (i : Instr) → i ≡ get_or (code_at p.funcs f.func) f.at i → (x : ℕ) → i ≡ Call x → HasFunction p x
   call-there i is x e = omega (arith, called-there (program_of p) x (config_of p s) (config_of p s).frames (call-going i is x e), function-count p)

@@ -13,17 +13,17 @@ use Rattle.mv_syntax.specs.declared.module.Func.{Func}
 use Rattle.mv_syntax.specs.Tree.{IsClosedCode}
 use Rattle.mv_syntax.specs.Sections.{Parts}
 use Rattle.mv_validator.specs.Types.{operands_of}
-use Rattle.mv_validator.specs.Typing.{func_type}
+use Rattle.mv_validator.specs.Typing.{Context, func_type}
 use Rattle.mv_validator.specs.Valid.{IsValid}
 use Rattle.mv_execution.specs.Values.{arity_of}
 use Rattle.mv_execution.specs.Config.{Function, Program, Frame, Config, operand_limit, operand_count}
 use Rattle.mv_execution.specs.Step.{entry_frame}
 use Rattle.mv_execution.specs.Instance.{program_of, imported, defined, tree_of}
-use Rattle.mv_execution.specs.Run.{entered, entered_as, param_count, newest_operands, arguments, answered, answered_in, StandsAt}
-use Rattle.mv_execution.specs.Fits.{AreOf, FitsProgram, FitsWaiting, FitsCalls, FitsConfig, module_context}
+use Rattle.mv_execution.specs.Run.{entered, entered_as, param_count, newest_operands, arguments, answered, answered_in, StandsAt, Stop as TreeStop}
+use Rattle.mv_execution.specs.Fits.{IsOf, AreOf, Gives, FitsProgram, FitsWaiting, FitsCalls, FitsConfig, module_context}
 use Rattle.mv_execution.proofs.Stops.{run-stands}
-use Rattle.mv_execution.proofs.Operands.{are-length}
-use Rattle.mv_execution.proofs.Runs.{entered-fits, answered-fits}
+use Rattle.mv_execution.proofs.Operands.{are-length, are-get}
+use Rattle.mv_execution.proofs.Runs.{run-fits, entered-fits, answered-fits, arguments-fit}
 use Rattle.mv_frames.specs.declared.frame.Frame.{Frame as FlatFrame}
 use Rattle.mv_frames.specs.Frames.{frame_of, IsPlaced}
 use Rattle.mv_frames.proofs.Lists.{reverse-drop}
@@ -34,7 +34,7 @@ use Rattle.mv_machine.specs.States.{code_at, code_or, call_of, calls_of, values_
 use Rattle.mv_machine.specs.Calls.{HasFunction}
 use Rattle.mv_machine.specs.Executions.{Execution}
 use Rattle.mv_machine.specs.Turns.{StopIs}
-use Rattle.mv_machine.specs.Stops.{StopStands}
+use Rattle.mv_machine.specs.Stops.{StopStands, StopFits}
 use Rattle.mv_machine.proofs.Newest.{Newest, calls-are, calls-become, newest-placed, placed-written, operands-are, operands-in-are}
 use Rattle.mv_machine.proofs.Signatures.{get-left, get-right, import-at, func-at}
 
@@ -84,10 +84,10 @@ pub record CanEnter (p : Parts) (s : State) (x : ℕ) : Type 0 where
 pub can-enter : (p : Parts) (s : State) (x n : ℕ) → IsValid p → IsFine p s → n ≡ length s.frames.items → n ≡ 0 → HasFunction p x → ((t : FuncType) → func_type (module_context p) x ≡ Some t → t.params ≡ []) → CanEnter p s x
 can-enter p s x n v h len idle function params = record { valid = v; fine = h; idle = nil_from_length s.frames.items (sym len ∙ idle); function = function; no_parameter = params }
 
-entered-typed : (p : Parts) (s : State) (x : ℕ) → CanEnter p s x → FitsConfig (module_context p) (entered (program_of p) x (config_of p s))
+entered-typed : (p : Parts) (s : State) (x : ℕ) → CanEnter p s x → (gs : List ValType) × FitsConfig (module_context p) gs (entered (program_of p) x (config_of p s))
 entered-typed p s x h =
     let k = has-type p x h.valid h.function in
-    entered-fits (module_context p) (program_of p) (config_of p s) x k.0 h.fine.program h.fine.typed (ap (calls_of p.funcs) h.idle) k.1 (h.no_parameter k.0 k.1)
+    (operands_of k.0.result, entered-fits (module_context p) h.fine.gives (program_of p) (config_of p s) x k.0 h.fine.program h.fine.typed (ap (calls_of p.funcs) h.idle) k.1 (h.no_parameter k.0 k.1))
 
 arity-small : (t : Option ValType) → arity_of t ≤ 1
 arity-small None = omega arith
@@ -102,7 +102,8 @@ imported-entered p s x lt =
 pub imported-fine : (p : Parts) (s : State) (x : ℕ) → x < length p.imports → CanEnter p s x → IsFine p (record s { waiting = Some x; given = None })
 imported-fine p s x lt h = record {
   program = h.fine.program;
-  typed = subst (FitsConfig (module_context p)) (sym (imported-entered p s x lt)) (entered-typed p s x h);
+  gives = (entered-typed p s x h).0;
+  typed = subst (FitsConfig (module_context p) (entered-typed p s x h).0) (sym (imported-entered p s x lt)) (entered-typed p s x h).1;
   placed = h.fine.placed;
   counted = h.fine.counted;
   operands = h.fine.operands;
@@ -142,7 +143,8 @@ module _ (p : Parts) (s new : State) (x : ℕ) (callee : Func) (t : FuncType) (g
   pub own-fine : IsFine p (record s { frames = new.frames; waiting = None; given = None })
   own-fine = record {
     program = h.fine.program;
-    typed = subst (FitsConfig (module_context p)) (sym own-entered) (entered-typed p s x h);
+    gives = (entered-typed p s x h).0;
+    typed = subst (FitsConfig (module_context p) (entered-typed p s x h).0) (sym own-entered) (entered-typed p s x h).1;
     placed = subst (λ l. ArePlacedIn p.funcs (reverse l)) (sym k.frames) placed-here;
     counted = h.fine.counted ∙ ap (λ l. operand_count (calls_of p.funcs l)) h.idle ∙ sym (ap operand_count calls);
     operands = h.fine.operands;
@@ -161,20 +163,20 @@ params-are p x t h e =
     ap (λ o. elim o as (λ z. ℕ) [ None ↦ 0 | Some function ↦ length function.ftype.params ]) k.1 ∙ ap (λ (z : FuncType). length z.params) k.2
 
 -- the type of the call that waits, over the newest call's operands
-pub waiting-type : (p : Parts) (s : State) (x : ℕ) → IsFine p s → s.waiting ≡ Some x → (t : FuncType) × (func_type (module_context p) x ≡ Some t) × FitsWaiting (module_context p) t (calls_of p.funcs s.frames.items)
+pub waiting-type : (p : Parts) (s : State) (x : ℕ) (h : IsFine p s) → s.waiting ≡ Some x → (t : FuncType) × (func_type (module_context p) x ≡ Some t) × FitsWaiting (module_context p) h.gives t (calls_of p.funcs s.frames.items)
 waiting-type p s x h w =
-    let k : FitsCalls (module_context p) (Some x) (calls_of p.funcs s.frames.items) (values_of s.given) = subst (λ o. FitsCalls (module_context p) o (calls_of p.funcs s.frames.items) (values_of s.given)) w h.typed.calls in
+    let k : FitsCalls (module_context p) h.gives (Some x) (calls_of p.funcs s.frames.items) (values_of s.given) = subst (λ o. FitsCalls (module_context p) h.gives o (calls_of p.funcs s.frames.items) (values_of s.given)) w h.typed.calls in
     (k.0, k.1, k.3)
 
 -- an argument lies on a call's operands
 pub argument-held : (p : Parts) (s : State) (x n : ℕ) → IsFine p s → s.waiting ≡ Some x → n < param_count (program_of p) x → 0 < length s.frames.items
 argument-held p s x n h w lt = by (calls_of p.funcs s.frames.items) refl k.2
   where
-    k : (t : FuncType) × (func_type (module_context p) x ≡ Some t) × FitsWaiting (module_context p) t (calls_of p.funcs s.frames.items)
+    k : (t : FuncType) × (func_type (module_context p) x ≡ Some t) × FitsWaiting (module_context p) h.gives t (calls_of p.funcs s.frames.items)
     k = waiting-type p s x h w
 
-    by : (fs : List Frame) → calls_of p.funcs s.frames.items ≡ fs → FitsWaiting (module_context p) k.0 fs → 0 < length s.frames.items
-    by [] e none = absurd (omega (arith, lt, params-are p x k.0 h.program k.1, ap (λ (l : List ValType). length l) none))
+    by : (fs : List Frame) → calls_of p.funcs s.frames.items ≡ fs → FitsWaiting (module_context p) h.gives k.0 fs → 0 < length s.frames.items
+    by [] e none = absurd (omega (arith, lt, params-are p x k.0 h.program k.1, ap (λ (l : List ValType). length l) none.0))
     by (f ∷ fs) e held = omega (arith, ap (λ (l : List Frame). length l) e, length-map (reverse s.frames.items) (call_of p.funcs), length-reverse s.frames.items)
 
 module _ (p : Parts) (s : State) (x n : ℕ) (f : FlatFrame) (h : IsFine p s) (w : s.waiting ≡ Some x) (t : Newest s.frames.items n f) where
@@ -182,7 +184,7 @@ module _ (p : Parts) (s : State) (x n : ℕ) (f : FlatFrame) (h : IsFine p s) (w
   pub arguments-held : param_count (program_of p) x ≤ length f.operands.items
   arguments-held =
       let k = waiting-type p s x h w in
-      let held : FitsWaiting (module_context p) k.0 (call_of p.funcs f ∷ map (call_of p.funcs) t.older) = subst (FitsWaiting (module_context p) k.0) (calls-are p.funcs s.frames.items n f t) k.2 in
+      let held : FitsWaiting (module_context p) h.gives k.0 (call_of p.funcs f ∷ map (call_of p.funcs) t.older) = subst (FitsWaiting (module_context p) h.gives k.0) (calls-are p.funcs s.frames.items n f t) k.2 in
       omega (arith, params-are p x k.0 h.program k.1, length-reverse f.operands.items, ap (λ (l : List ℕ). length l) held.2, length-append held.0 held.1, are-length (reverse k.0.params) held.0 held.3, length-reverse k.0.params)
 
   -- the operands of all calls are no fewer
@@ -203,6 +205,13 @@ module _ (p : Parts) (s : State) (x n : ℕ) (f : FlatFrame) (h : IsFine p s) (w
       let enough = arguments-held in
       ap (λ l. slice_get l i) (arguments-are first e) ∙ slice_get_read (drop first ops) (length ops - first) i v (sym (length-drop first ops)) (omega (arith, e, lt, enough)) (is ∙ sym (get_or-drop first ops i v))
 
+-- an argument is of its parameter's type
+pub argument-fits : (p : Parts) (s : State) (x n v : ℕ) (t : FuncType) (u : ValType) → IsFine p s → s.waiting ≡ Some x → func_type (module_context p) x ≡ Some t → slice_get t.params n ≡ Some u → slice_get (arguments (program_of p) (config_of p s)) n ≡ Some v → IsOf u v
+argument-fits p s x n v t u h w e is at =
+    let k = are-get t.params (arguments (program_of p) (config_of p s)) n u (arguments-fit (module_context p) h.gives (program_of p) (config_of p s) x t h.program h.typed w e) is in
+    let same : k.0 ≡ v = (let z : Some k.0 ≡ Some v = sym k.1 ∙ at in cc) in
+    subst (IsOf u) same k.2
+
 -- the type that was found for the call that waits
 pub waiting-found : (p : Parts) (s : State) (x : ℕ) (t : FuncType) → IsFine p s → s.waiting ≡ Some x → ((function : Function) → slice_get (program_of p).functions x ≡ Some function → t ≡ function.ftype) → func_type (module_context p) x ≡ Some t
 waiting-found p s x t h w found =
@@ -221,10 +230,10 @@ module _ (p : Parts) (s : State) (x : ℕ) (value : Option ℕ) (w : s.waiting �
   answered-as : answered (program_of p) (values_of value) (config_of p s) ≡ answered_in (param_count (program_of p) x) (values_of value) (config_of p s) (calls_of p.funcs s.frames.items)
   answered-as = ap (λ o. elim o as (λ z. Config) [ None ↦ config_of p s | Some y ↦ answered_in (param_count (program_of p) y) (values_of value) (config_of p s) (calls_of p.funcs s.frames.items) ]) w
 
-  answered-typed : IsFine p s → ((t : FuncType) → func_type (module_context p) x ≡ Some t → AreOf (operands_of t.result) (values_of value)) → FitsConfig (module_context p) (answered (program_of p) (values_of value) (config_of p s))
+  answered-typed : (h : IsFine p s) → ((t : FuncType) → func_type (module_context p) x ≡ Some t → AreOf (operands_of t.result) (values_of value)) → FitsConfig (module_context p) h.gives (answered (program_of p) (values_of value) (config_of p s))
   answered-typed h are =
       let k = waiting-type p s x h w in
-      answered-fits (module_context p) (program_of p) (config_of p s) x k.0 (values_of value) h.program h.typed w k.1 (are k.0 k.1)
+      answered-fits (module_context p) h.gives (program_of p) (config_of p s) x k.0 (values_of value) h.program h.typed w k.1 (are k.0 k.1)
 
   -- where no call is left the result is what was given
   answered-none : s.frames.items ≡ [] → config_of p (record s { waiting = None; given = value }) ≡ answered (program_of p) (values_of value) (config_of p s)
@@ -235,7 +244,8 @@ module _ (p : Parts) (s : State) (x : ℕ) (value : Option ℕ) (w : s.waiting �
   pub none-fine : IsFine p s → ((t : FuncType) → func_type (module_context p) x ≡ Some t → AreOf (operands_of t.result) (values_of value)) → s.frames.items ≡ [] → IsFine p (record s { waiting = None; given = value })
   none-fine h are none = record {
     program = h.program;
-    typed = subst (FitsConfig (module_context p)) (sym (answered-none none)) (answered-typed h are);
+    gives = h.gives;
+    typed = subst (FitsConfig (module_context p) h.gives) (sym (answered-none none)) (answered-typed h are);
     placed = h.placed;
     counted = h.counted;
     operands = h.operands;
@@ -294,7 +304,8 @@ module _ (p : Parts) (s new : State) (x n : ℕ) (f g : FlatFrame) (value : Opti
       let there : IsPlaced (code_at p.funcs f.func) g = subst (IsPlaced (code_at p.funcs f.func)) (sym k.rest) here in
       record {
         program = h.program;
-        typed = subst (FitsConfig (module_context p)) (sym (answered-calls m)) (answered-typed p s x value w h are);
+        gives = h.gives;
+        typed = subst (FitsConfig (module_context p) h.gives) (sym (answered-calls m)) (answered-typed p s x value w h are);
         placed = subst (λ l. ArePlacedIn p.funcs (reverse l)) (sym written) (placed-written p.funcs s.frames.items n f t g h.placed (ap (λ (y : FlatFrame). y.func) k.rest) there);
         counted = counted ∙ sym (answer-count h);
         operands = room;
@@ -313,6 +324,16 @@ stop-stands (stops.Ended v) program fuel old new e = subst (λ r. StandsAt r.1 r
 stop-stands (stops.Trap t) program fuel old new e = subst (λ r. StandsAt r.1 r.0) e (run-stands program fuel old)
 stop-stands stops.Fuel program fuel old new e = subst (λ r. StandsAt r.1 r.0) e (run-stands program fuel old)
 stop-stands stops.Memory program fuel old new e = tt
+
+-- a run over the flat code keeps the types of what was entered, as the run over trees does
+pub stop-fits : (stop : Stop) (m : Context) (gs : List ValType) (program : Program) (fuel : ℕ) (old new : Config) → FitsProgram m program → FitsConfig m gs old → StopIs stop program fuel old new → StopFits m gs stop new
+stop-fits (stops.Import x) m gs program fuel old new p h e = subst (λ (r : Config × TreeStop). FitsConfig m gs r.0) e (run-fits m gs program fuel old p h).0
+stop-fits (stops.Ended v) m gs program fuel old new p h e =
+    let k = run-fits m gs program fuel old p h in
+    (subst (λ (r : Config × TreeStop). FitsConfig m gs r.0) e k.0, subst (λ (r : Config × TreeStop). Gives gs r.1) e k.2)
+stop-fits (stops.Trap t) m gs program fuel old new p h e = subst (λ (r : Config × TreeStop). FitsConfig m gs r.0) e (run-fits m gs program fuel old p h).0
+stop-fits stops.Fuel m gs program fuel old new p h e = subst (λ (r : Config × TreeStop). FitsConfig m gs r.0) e (run-fits m gs program fuel old p h).0
+stop-fits stops.Memory m gs program fuel old new p h e = tt
 
 -- ---- a machine, whose view has its module and its configuration
 

@@ -3,6 +3,8 @@ use Rattle.std.proofs.Common.{◌≡◌, ℕ, ◌^◌, ◌≤◌, List, [], ◌�
 use Rattle.std.proofs.Common.{Global as Allocator, length-append}
 use Rattle.std.specs.Prelude.{IfSome, reverse, slice_get, slice_set, option_and_then}
 use Rattle.std.proofs.lemmas.List.{length-map}
+use Rattle.std.proofs.lemmas.Option.{slice_get-map}
+use Rattle.std.specs.Option.{option_map}
 use Rattle.mv_syntax.specs.declared.types.FuncType.{FuncType}
 use Rattle.mv_syntax.specs.declared.module.Import.{Import}
 use Rattle.mv_syntax.specs.declared.module.Func.{Func}
@@ -10,7 +12,7 @@ use Rattle.mv_syntax.specs.declared.module.Global.{Global}
 use Rattle.mv_validator.specs.Typing.{func_type}
 use Rattle.mv_machine.specs.Calls.{HasFunction}
 use Rattle.mv_machine.proofs.FromOutside.{has-type}
-use Rattle.mv_execution.proofs.Operands.{are-length}
+use Rattle.mv_execution.proofs.Operands.{are-length, are-get}
 use Rattle.mv_execution.proofs.Runs.{element-fits}
 use Rattle.mv_syntax.specs.declared.types.Limits.{Limits}
 use Rattle.mv_syntax.specs.Kept.{Keeps}
@@ -20,7 +22,7 @@ use Rattle.mv_memory.specs.Bytes.{most_pages}
 use Rattle.mv_memory.specs.Memory.{Contents}
 use Rattle.mv_execution.specs.Config.{Function, Store, Frame, Config, frame_limit, operand_count, operand_limit, gap_limit}
 use Rattle.mv_execution.specs.Instance.{constant_of, memory_of, table_of, new_store, new_config, program_of, with_element}
-use Rattle.mv_execution.specs.Fits.{FitsConfig, module_context}
+use Rattle.mv_execution.specs.Fits.{IsOf, FitsConfig, module_context}
 use Rattle.mv_execution.proofs.Modules.{typed-program, new-fits}
 use Rattle.mv_execution.proofs.ValidModules.{valid-typed}
 use Rattle.mv_frames.specs.declared.frame.Frame.{Frame as FlatFrame}
@@ -61,7 +63,8 @@ config-new p s n = let e : calls_of p.funcs s.frames.items ≡ [] = ap (calls_of
 pub new-fine : (p : Parts) (s : State) → Keeps p → IsValid p → IsNew p s → IsFine p s
 new-fine p s k v n = record {
   program = typed-program p (valid-typed p k v);
-  typed = subst (FitsConfig (module_context p)) (sym (config-new p s n)) (new-fits p (valid-typed p k v));
+  gives = [];
+  typed = subst (FitsConfig (module_context p) []) (sym (config-new p s n)) (new-fits p (valid-typed p k v));
   placed = subst (λ (fs : List FlatFrame). ArePlacedIn p.funcs (reverse fs)) (sym n.frames) tt;
   counted = n.operands ∙ ap (λ fs. operand_count (calls_of p.funcs fs)) (sym n.frames);
   operands = subst (λ x. x ≤ operand_limit) (sym n.operands) (omega arith);
@@ -77,6 +80,13 @@ pub global-there : (p : Parts) (s : State) (n : ℕ) → IsFine p s → n < leng
 global-there p s n h lt =
     omega (arith, length-map p.globals (λ (g : Global). g.vtype), are-length (map (λ (g : Global). g.vtype) p.globals) s.store.globals.items h.typed.store.globals)
 
+-- a global's value is of its type
+pub global-fits : (p : Parts) (s : State) (n v : ℕ) (g : Global) → IsFine p s → slice_get p.globals n ≡ Some g → slice_get s.store.globals.items n ≡ Some v → IsOf g.vtype v
+global-fits p s n v g h e at =
+    let k = are-get (map (λ (x : Global). x.vtype) p.globals) s.store.globals.items n g.vtype h.typed.store.globals (slice_get-map (λ (x : Global). x.vtype) p.globals n ∙ ap (option_map (λ (x : Global). x.vtype)) e) in
+    let same : k.0 ≡ v = (let z : Some k.0 ≡ Some v = sym k.1 ∙ at in cc) in
+    subst (IsOf g.vtype) same k.2
+
 -- another function is in the table
 module _ (p : Parts) (s : State) (at x : ℕ) (table : Vec (Option ℕ) Allocator) (is : table.items ≡ slice_set s.store.table.items at (Some x)) where
   pub element-config : config_of p (record s { store = record s.store { table = table } }) ≡ with_element at x (config_of p s)
@@ -85,7 +95,8 @@ module _ (p : Parts) (s : State) (at x : ℕ) (table : Vec (Option ℕ) Allocato
   pub element-fine : (t : FuncType) → func_type (module_context p) x ≡ Some t → IsFine p s → IsFine p (record s { store = record s.store { table = table } })
   element-fine t e h = record {
     program = h.program;
-    typed = subst (FitsConfig (module_context p)) (sym element-config) (element-fits (module_context p) (config_of p s) at x t e h.typed);
+    gives = h.gives;
+    typed = subst (FitsConfig (module_context p) h.gives) (sym element-config) (element-fits (module_context p) h.gives (config_of p s) at x t e h.typed);
     placed = h.placed;
     counted = h.counted;
     operands = h.operands;

@@ -95,40 +95,40 @@ cond-some : {A : Type 0} (b : Bool) (x y : A) → cond b (Some x) None ≡ Some 
 cond-some true x y h = (refl, cc)
 cond-some false x y h = absurd (cc)
 
-returned-frames : (m : Context) (c next : Config) (frames : List Frame) → FitsConfig m c → c.waiting ≡ None → c.given ≡ [] → FitFrames m [] frames → returned_from c frames ≡ Some next → FitsConfig m next
-returned-frames m c next [] h w g fit e = absurd (cc)
-returned-frames m c next (f ∷ []) h w g (ls, r, fit, more) e =
+returned-frames : (m : Context) (gs : List ValType) (c next : Config) (frames : List Frame) → FitsConfig m gs c → c.waiting ≡ None → c.given ≡ [] → FitFrames m gs [] frames → returned_from c frames ≡ Some next → FitsConfig m gs next
+returned-frames m gs c next [] h w g fit e = absurd (cc)
+returned-frames m gs c next (f ∷ []) h w g (ls, r, fit, more) e =
     let k = cond-some (is_none f.blocks) (record c { frames = []; given = take f.results f.operands }) next e in
     let are = ended-operands (in_function m ls r) f fit k.0 in
     let all : take f.results f.operands ≡ f.operands = take_all f.results f.operands (omega (arith, ended-count (in_function m ls r) f fit k.0)) in
-    let calls : FitsCalls m None [] (take f.results f.operands) = (operands_of r, subst (AreOf (operands_of r)) (sym all) are, tt) in
-    subst (FitsConfig m) k.1 (record { store = h.store; calls = subst (λ x. FitsCalls m x [] (take f.results f.operands)) (sym w) calls })
-returned-frames m c next (f ∷ u ∷ fs) h w g (ls, r, fit, (us, q, under, more)) e =
+    let calls : FitsCalls m gs None [] (take f.results f.operands) = (operands_of r, subst (AreOf (operands_of r)) (sym all) are, more) in
+    subst (FitsConfig m gs) k.1 (record { store = h.store; calls = subst (λ x. FitsCalls m gs x [] (take f.results f.operands)) (sym w) calls })
+returned-frames m gs c next (f ∷ u ∷ fs) h w g (ls, r, fit, (us, q, under, more)) e =
     let vs = take f.results f.operands in
     let k = cond-some (is_none f.blocks) (record c { frames = record u { operands = vs ++ u.operands } ∷ fs }) next e in
     let are = ended-operands (in_function m ls r) f fit k.0 in
     let all : vs ≡ f.operands = take_all f.results f.operands (omega (arith, ended-count (in_function m ls r) f fit k.0)) in
-    let there : FitFrames m [] (record u { operands = vs ++ u.operands } ∷ fs) = (us, q, given-under (in_function m us q) (operands_of r) vs u under (subst (AreOf (operands_of r)) (sym all) are), more) in
-    let calls : FitsCalls m None (record u { operands = vs ++ u.operands } ∷ fs) [] = ([], tt, there) in
-    subst (FitsConfig m) k.1 (record { store = h.store; calls = subst (λ x. FitsCalls m x (record u { operands = vs ++ u.operands } ∷ fs) c.given) (sym w) (subst (λ x. FitsCalls m None (record u { operands = vs ++ u.operands } ∷ fs) x) (sym g) calls) })
+    let there : FitFrames m gs [] (record u { operands = vs ++ u.operands } ∷ fs) = (us, q, given-under (in_function m us q) (operands_of r) vs u under (subst (AreOf (operands_of r)) (sym all) are), more) in
+    let calls : FitsCalls m gs None (record u { operands = vs ++ u.operands } ∷ fs) [] = ([], tt, there) in
+    subst (FitsConfig m gs) k.1 (record { store = h.store; calls = subst (λ x. FitsCalls m gs x (record u { operands = vs ++ u.operands } ∷ fs) c.given) (sym w) (subst (λ x. FitsCalls m gs None (record u { operands = vs ++ u.operands } ∷ fs) x) (sym g) calls) })
 
-pub returned-fits : (m : Context) (c next : Config) → FitsConfig m c → c.waiting ≡ None → c.given ≡ [] → returned_newest c ≡ Some next → FitsConfig m next
-returned-fits m c next h w g e = returned-frames m c next c.frames h w g (idle-fits m c h w g) e
+pub returned-fits : (m : Context) (gs : List ValType) (c next : Config) → FitsConfig m gs c → c.waiting ≡ None → c.given ≡ [] → returned_newest c ≡ Some next → FitsConfig m gs next
+returned-fits m gs c next h w g e = returned-frames m gs c next c.frames h w g (idle-fits m gs c h w g) e
 
-closed-frames : (m : Context) (c next : Config) (frames : List Frame) → FitsConfig m c → c.waiting ≡ None → c.given ≡ [] → FitFrames m [] frames → closed_in_newest c frames ≡ Some next → FitsConfig m next
-closed-frames m c next [] h w g fit e = absurd (cc)
-closed-frames m c next (f ∷ fs) h w g (ls, r, fit, more) e = by (closed f) refl e
+closed-frames : (m : Context) (gs : List ValType) (c next : Config) (frames : List Frame) → FitsConfig m gs c → c.waiting ≡ None → c.given ≡ [] → FitFrames m gs [] frames → closed_in_newest c frames ≡ Some next → FitsConfig m gs next
+closed-frames m gs c next [] h w g fit e = absurd (cc)
+closed-frames m gs c next (f ∷ fs) h w g (ls, r, fit, more) e = by (closed f) refl e
   where
-    by : (o : Option Frame) → closed f ≡ o → option_map (λ x. record c { frames = x ∷ fs }) o ≡ Some next → FitsConfig m next
+    by : (o : Option Frame) → closed f ≡ o → option_map (λ x. record c { frames = x ∷ fs }) o ≡ Some next → FitsConfig m gs next
     by None k e = absurd (cc)
     by (Some x) k e =
         let same : record c { frames = x ∷ fs } ≡ next = cc in
-        let there : FitFrames m [] (x ∷ fs) = (ls, r, closed-fits (in_function m ls r) f x fit k, more) in
-        let calls : FitsCalls m None (x ∷ fs) [] = ([], tt, there) in
-        subst (FitsConfig m) same (record { store = h.store; calls = subst (λ z. FitsCalls m z (x ∷ fs) c.given) (sym w) (subst (λ z. FitsCalls m None (x ∷ fs) z) (sym g) calls) })
+        let there : FitFrames m gs [] (x ∷ fs) = (ls, r, closed-fits (in_function m ls r) f x fit k, more) in
+        let calls : FitsCalls m gs None (x ∷ fs) [] = ([], tt, there) in
+        subst (FitsConfig m gs) same (record { store = h.store; calls = subst (λ z. FitsCalls m gs z (x ∷ fs) c.given) (sym w) (subst (λ z. FitsCalls m gs None (x ∷ fs) z) (sym g) calls) })
 
-pub closed-newest-fits : (m : Context) (c next : Config) → FitsConfig m c → c.waiting ≡ None → c.given ≡ [] → closed_newest c ≡ Some next → FitsConfig m next
-closed-newest-fits m c next h w g e = closed-frames m c next c.frames h w g (idle-fits m c h w g) e
+pub closed-newest-fits : (m : Context) (gs : List ValType) (c next : Config) → FitsConfig m gs c → c.waiting ≡ None → c.given ≡ [] → closed_newest c ≡ Some next → FitsConfig m gs next
+closed-newest-fits m gs c next h w g e = closed-frames m gs c next c.frames h w g (idle-fits m gs c h w g) e
 
 -- ---- the newest call of the code leaves a block
 
@@ -148,10 +148,10 @@ module _ (p : Parts) (s : State) (n : ℕ) (f : FlatFrame) (t : Newest s.frames.
     pub closed-fine : IsFine p s → s.waiting ≡ None → new.operands ≡ s.operands → IsPlaced (code_at p.funcs f.func) g → IsFine p new
     closed-fine h idle ops here =
         let none : s.given ≡ None = subst (IsGivenLast s.given) t.listed h.given in
-        let typed = closed-newest-fits (module_context p) (config_of p s) (config_of p new) h.typed idle (ap values_of none) closed-written in
+        let typed = closed-newest-fits (module_context p) h.gives (config_of p s) (config_of p new) h.typed idle (ap values_of none) closed-written in
         let len : length g.operands.items ≡ length f.operands.items = omega (arith, length-reverse g.operands.items, length-reverse f.operands.items, ap (λ (x : List ℕ). length x) (closed-operands (call_of p.funcs f) (frame_of (code_at p.funcs f.func) g) closes)) in
         let counted : new.operands ≡ length g.operands.items + operand_count (map (call_of p.funcs) t.older) = omega (arith, ops, h.counted, operands-are p.funcs s.frames.items n f t, len) in
-        written-fine p s n f t new g w same h here typed (subst (λ x. IsAnswerable p x (g ∷ t.older)) (sym (w.waiting ∙ idle)) tt) counted (omega (arith, ops, h.operands))
+        written-fine p s n f t new g w same h here h.gives typed (subst (λ x. IsAnswerable p x (g ∷ t.older)) (sym (w.waiting ∙ idle)) tt) counted (omega (arith, ops, h.operands))
 
 -- ---- the newest call of the code returns
 
@@ -167,8 +167,8 @@ newest-ended c f (g ∷ fs) e some = (returned-some (record c { frames = record 
 pub given-count : (p : Parts) (s : State) (f : FlatFrame) (fs : List FlatFrame) → IsFine p s → s.waiting ≡ None → reverse s.frames.items ≡ f ∷ fs → is_none (call_of p.funcs f).blocks ≡ true → arity_if f.gives ≡ length f.operands.items
 given-count p s f fs h idle listed none =
     let given : s.given ≡ None = subst (IsGivenLast s.given) listed h.given in
-    let fit = idle-fits (module_context p) (config_of p s) h.typed idle (ap values_of given) in
-    let k : FitFrames (module_context p) [] (call_of p.funcs f ∷ map (call_of p.funcs) fs) = subst (FitFrames (module_context p) []) (ap (map (call_of p.funcs)) listed) fit in
+    let fit = idle-fits (module_context p) h.gives (config_of p s) h.typed idle (ap values_of given) in
+    let k : FitFrames (module_context p) h.gives [] (call_of p.funcs f ∷ map (call_of p.funcs) fs) = subst (FitFrames (module_context p) h.gives []) (ap (map (call_of p.funcs)) listed) fit in
     omega (arith, ended-count (in_function (module_context p) k.0 k.1) (call_of p.funcs f) k.2 none, length-reverse f.operands.items)
 
 -- ---- to the call before it
@@ -222,7 +222,8 @@ module _ (p : Parts) (s : State) (f g k : FlatFrame) (older : List FlatFrame) (l
         let after : operand_count (calls_of p.funcs v.items) ≡ length k.operands.items + operand_count (map (call_of p.funcs) older) = omega (arith, ap (λ x. operand_count (map (call_of p.funcs) x)) relisted, length-reverse k.operands.items) in
         record {
           program = h.program;
-          typed = returned-fits (module_context p) (config_of p s) (config_of p (record s { frames = v })) h.typed idle (ap values_of (none-given h)) returned-config;
+          gives = h.gives;
+          typed = returned-fits (module_context p) h.gives (config_of p s) (config_of p (record s { frames = v })) h.typed idle (ap values_of (none-given h)) returned-config;
           placed = subst (ArePlacedIn p.funcs) (sym relisted) (placed-under p.funcs g k older same (placed-two h).2);
           counted = omega (arith, after, own, count-two h);
           operands = h.operands;
@@ -244,7 +245,8 @@ module _ (p : Parts) (s : State) (f g k : FlatFrame) (older : List FlatFrame) (l
         let q = placed-two h in
         record {
           program = h.program;
-          typed = subst (FitsConfig (module_context p)) (sym kept-config) h.typed;
+          gives = h.gives;
+          typed = subst (FitsConfig (module_context p) h.gives) (sym kept-config) h.typed;
           placed = subst (ArePlacedIn p.funcs) (sym relisted) (q.0, q.1, placed-under p.funcs g k older same q.2);
           counted = h.counted ∙ sym (ap (λ (x : Config). operand_count x.frames) kept-config);
           operands = h.operands;
@@ -274,7 +276,8 @@ module _ (p : Parts) (s : State) (f : FlatFrame) (listed : reverse s.frames.item
       let given : s.given ≡ None = subst (IsGivenLast s.given) listed h.given in
       record {
         program = h.program;
-        typed = returned-fits (module_context p) (config_of p s) (config_of p (record s { frames = v; operands = 0; given = value })) h.typed idle (ap values_of given) ended-config;
+        gives = h.gives;
+        typed = returned-fits (module_context p) h.gives (config_of p s) (config_of p (record s { frames = v; operands = 0; given = value })) h.typed idle (ap values_of given) ended-config;
         placed = subst (λ x. ArePlacedIn p.funcs (reverse x)) (sym gone) tt;
         counted = sym (ap (λ x. operand_count (calls_of p.funcs x)) gone);
         operands = omega arith;

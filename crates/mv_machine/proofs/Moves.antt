@@ -6,13 +6,14 @@ use Rattle.std.proofs.lemmas.Bool.{lt-ltb, le-ltb}
 use Rattle.std.proofs.lemmas.Option.{slice_get-get_or}
 use Rattle.mv_calls.specs.declared.trap.Trap.{Trap}
 use Rattle.mv_calls.specs.declared.trap.Trap.TheVariants as trap
+use Rattle.mv_syntax.specs.declared.ops.ValType.{ValType}
 use Rattle.mv_syntax.specs.declared.instr.Instr.{Instr}
 use Rattle.mv_syntax.specs.declared.instr.Instr.TheVariants as instr
 use Rattle.mv_syntax.specs.Sections.{Parts}
 use Rattle.mv_syntax.specs.Tree.{Tree, plain, block, loop, choice, other_of}
-use Rattle.mv_syntax.specs.TreeLaws.{behind-at}
+use Rattle.mv_syntax.proofs.TreeLaws.{behind-at}
 use Rattle.mv_execution.specs.Config.{Program, Store, OpenBlock, Frame, Config, operand_limit, operand_count}
-use Rattle.mv_execution.specs.Rows.{Out, Goes, Traps, Stuck, Next, acted, advanced}
+use Rattle.mv_execution.specs.Rows.{Out, Goes, Traps, Stuck, Next, acted, advanced, IsGoing, CameTo}
 use Rattle.mv_execution.specs.Rises.{leaves_more, Leaves, LeavesFirst}
 use Rattle.mv_execution.specs.Step.{went, row, step_of}
 use Rattle.mv_execution.specs.Run.{is_done}
@@ -24,11 +25,11 @@ use Rattle.mv_execution.proofs.Steps.{StepFits, step-fits}
 use Rattle.mv_frames.specs.declared.frame.Frame.{Frame as FlatFrame}
 use Rattle.mv_frames.specs.Blocks.{advanced_frame}
 use Rattle.mv_frames.specs.Frames.{frame_of, block_of, blocks_of, left_at, IsPlaced}
-use Rattle.mv_frames.specs.Stores.{store_of, IsGoing, CameTo as FrameCameTo}
+use Rattle.mv_frames.specs.Stores.{store_of}
 use Rattle.mv_frames.proofs.Advances.{Top, top, at-within, front-opened, front-chosen, tree-end, tree-else, skip}
 use Rattle.mv_machine.specs.declared.state.State.{State}
 use Rattle.mv_machine.specs.States.{code_at, call_of, config_of, IsAnswerable, IsFine}
-use Rattle.mv_machine.specs.Turns.{AreReady, IsReady, CameTo, counted_step}
+use Rattle.mv_machine.specs.Turns.{AreReady, IsReady, counted_step}
 use Rattle.mv_machine.specs.Calls.{calls_nothing, IsAtIn, IsAtPlain}
 use Rattle.mv_machine.proofs.Newest.{Newest, calls-are, newest-placed, operands-are}
 use Rattle.mv_machine.proofs.Written.{Written, written-config, same-config, written-fine}
@@ -106,10 +107,10 @@ none-pushed [] h = refl
 none-pushed (t ∷ ts) h = absurd h
 
 -- a typed configuration in which no call waits and nothing was given
-pub idle-fits : (m : Context) (c : Config) → FitsConfig m c → c.waiting ≡ None → c.given ≡ [] → FitFrames m [] c.frames
-idle-fits m c h w g =
-    let k : FitsCalls m None c.frames [] = subst (λ x. FitsCalls m x c.frames []) w (subst (λ x. FitsCalls m c.waiting c.frames x) g h.calls) in
-    subst (λ x. FitFrames m x c.frames) (none-pushed k.0 k.1) k.2
+pub idle-fits : (m : Context) (gs : List ValType) (c : Config) → FitsConfig m gs c → c.waiting ≡ None → c.given ≡ [] → FitFrames m gs [] c.frames
+idle-fits m gs c h w g =
+    let k : FitsCalls m gs None c.frames [] = subst (λ x. FitsCalls m gs x c.frames []) w (subst (λ x. FitsCalls m gs c.waiting c.frames x) g h.calls) in
+    subst (λ x. FitFrames m gs x c.frames) (none-pushed k.0 k.1) k.2
 
 read-is : (code : List Instr) (at : ℕ) (i : Instr) → at < length code → slice_get code at ≡ Some i → i ≡ get_or code at i
 read-is code at i lt h = let e : Some (get_or code at i) ≡ Some i = sym (slice_get-get_or code at i lt) ∙ h in cc
@@ -120,7 +121,8 @@ pub record Before (p : Parts) (s : State) (f : FlatFrame) (older : List FlatFram
   pub instr : Instr
   pub is : instr ≡ get_or (code_at p.funcs f.func) f.at instr
   pub step : counted_step (program_of p) (config_of p s) ≡ went (config_of p s) (map (call_of p.funcs) older) (advanced_frame (store_of s.store) (call_of p.funcs f))
-  pub fits : StepFits (module_context p) (counted_step (program_of p) (config_of p s))
+  pub gives : List ValType
+  pub fits : StepFits (module_context p) gives (counted_step (program_of p) (config_of p s))
   pub leaves : (next : Store × Frame) → advanced_frame (store_of s.store) (call_of p.funcs f) ≡ Goes next → Leaves (leaves_more instr) (call_of p.funcs f) next.1
   pub goes : leaves_more instr ≡ true → (t : Trap) → advanced_frame (store_of s.store) (call_of p.funcs f) ≡ Traps t → ⊥
 
@@ -141,12 +143,12 @@ module _ (p : Parts) (s : State) (n : ℕ) (f : FlatFrame) (t : Newest s.frames.
       let same : block_of code top-newest.label top-newest.rest ≡ q.0 = cc in
       ap (λ (b : OpenBlock). is_done b.rest) same ∙ q.3
 
-  step-fits-newest : StepFits (module_context p) (counted_step (program_of p) (config_of p s))
+  step-fits-newest : StepFits (module_context p) h.gives (counted_step (program_of p) (config_of p s))
   step-fits-newest =
       let c = config_of p s in
       let e = calls-are p.funcs s.frames.items n f t in
-      let fit : FitFrames (module_context p) [] (call_of p.funcs f ∷ map (call_of p.funcs) t.older) = subst (FitFrames (module_context p) []) e (idle-fits (module_context p) c h.typed r.waiting r.given) in
-      subst (λ x. StepFits (module_context p) (step_of (program_of p) c x)) (sym e) (step-fits (module_context p) (program_of p) h.program c (call_of p.funcs f) (map (call_of p.funcs) t.older) h.typed.store r.waiting (r.given, fit, ready-newest))
+      let fit : FitFrames (module_context p) h.gives [] (call_of p.funcs f ∷ map (call_of p.funcs) t.older) = subst (FitFrames (module_context p) h.gives []) e (idle-fits (module_context p) h.gives c h.typed r.waiting r.given) in
+      subst (λ x. StepFits (module_context p) h.gives (step_of (program_of p) c x)) (sym e) (step-fits (module_context p) h.gives (program_of p) h.program c (call_of p.funcs f) (map (call_of p.funcs) t.older) h.typed.store r.waiting (r.given, fit, ready-newest))
 
   pub before : Before p s f t.older
   before =
@@ -166,6 +168,7 @@ module _ (p : Parts) (s : State) (n : ℕ) (f : FlatFrame) (t : Newest s.frames.
         instr = a.0;
         is = is;
         step = ap (step_of (program_of p) c) (calls-are p.funcs s.frames.items n f t) ∙ row-is ∙ k.stays (program_of p) b outer c fs frame ∙ ap (went c fs) (sym same);
+        gives = h.gives;
         fits = step-fits-newest;
         leaves = λ next e. k.leaves frame next.1 (goes-holds (LeavesFirst top-newest.rest.tree frame) (advanced top-newest.rest.tree b outer c.store frame) next (sym same ∙ e) (advanced-leaves top-newest.rest.tree b outer c.store frame));
         goes = λ m x e. k.goes m b outer c.store frame x (sym same ∙ e);
@@ -178,9 +181,9 @@ module _ (p : Parts) (s : State) (n : ℕ) (f : FlatFrame) (t : Newest s.frames.
   count = h.counted ∙ operands-are p.funcs s.frames.items n f t
 
   pub runs : IsGoing (advanced_frame (store_of s.store) (call_of p.funcs f))
-  runs = by (advanced_frame (store_of s.store) (call_of p.funcs f)) (subst (StepFits (module_context p)) b.step b.fits)
+  runs = by (advanced_frame (store_of s.store) (call_of p.funcs f)) (subst (StepFits (module_context p) b.gives) b.step b.fits)
     where
-      by : (o : Next) → StepFits (module_context p) (went (config_of p s) (map (call_of p.funcs) t.older) o) → IsGoing o
+      by : (o : Next) → StepFits (module_context p) b.gives (went (config_of p s) (map (call_of p.funcs) t.older) o) → IsGoing o
       by (Goes next) k = tt
       by (Traps x) k = tt
       by Stuck k = k
@@ -228,22 +231,22 @@ module _ (p : Parts) (s : State) (n : ℕ) (f : FlatFrame) (t : Newest s.frames.
 
     goes-fine : advanced_frame (store_of s.store) (call_of p.funcs f) ≡ Goes (store_of new.store, frame_of (code_at p.funcs f.func) g) → (leaves_more b.instr ≡ true → s.operands < operand_limit) → IsFine p new
     goes-fine e room =
-        let typed : FitsConfig (module_context p) (config_of p new) = subst (StepFits (module_context p)) (goes-here e room) b.fits in
+        let typed : FitsConfig (module_context p) b.gives (config_of p new) = subst (StepFits (module_context p) b.gives) (goes-here e room) b.fits in
         let bound = next-count (store_of new.store, frame_of (code_at p.funcs f.func) g) e room in
-        written-fine p s n f t new g w same h here typed answerable counted (omega (arith, counted, bound, length-reverse g.operands.items))
+        written-fine p s n f t new g w same h here b.gives typed answerable counted (omega (arith, counted, bound, length-reverse g.operands.items))
 
     -- all is as before
     pub same-fine : store_of new.store ≡ store_of s.store → frame_of (code_at p.funcs f.func) g ≡ call_of p.funcs f → IsFine p new
     same-fine e k =
-        let typed : FitsConfig (module_context p) (config_of p new) = subst (FitsConfig (module_context p)) (sym (same-config p s n f t new g w same e k)) h.typed in
-        written-fine p s n f t new g w same h here typed answerable counted (omega (arith, counted, counted-same g k, h.operands))
+        let typed : FitsConfig (module_context p) h.gives (config_of p new) = subst (FitsConfig (module_context p) h.gives) (sym (same-config p s n f t new g w same e k)) h.typed in
+        written-fine p s n f t new g w same h here h.gives typed answerable counted (omega (arith, counted, counted-same g k, h.operands))
 
     -- it went on, or it trapped, and all is as before
-    pub came : (o : Option Trap) → FrameCameTo o (advanced_frame (store_of s.store) (call_of p.funcs f)) (store_of s.store, call_of p.funcs f) (store_of new.store, frame_of (code_at p.funcs f.func) g) → (leaves_more b.instr ≡ true → s.operands < operand_limit) → CameTo o (counted_step (program_of p) (config_of p s)) (config_of p s) (config_of p new)
+    pub came : (o : Option Trap) → CameTo o (advanced_frame (store_of s.store) (call_of p.funcs f)) (store_of s.store, call_of p.funcs f) (store_of new.store, frame_of (code_at p.funcs f.func) g) → (leaves_more b.instr ≡ true → s.operands < operand_limit) → CameTo o (counted_step (program_of p) (config_of p s)) (config_of p s) (config_of p new)
     came None e room = goes-here e room
     came (Some x) e room =
         (b.step ∙ ap (went (config_of p s) (map (call_of p.funcs) t.older)) e.0, same-config p s n f t new g w same (ap (λ (y : Store × Frame). y.0) e.1) (ap (λ (y : Store × Frame). y.1) e.1))
 
-    pub came-fine : (o : Option Trap) → FrameCameTo o (advanced_frame (store_of s.store) (call_of p.funcs f)) (store_of s.store, call_of p.funcs f) (store_of new.store, frame_of (code_at p.funcs f.func) g) → (leaves_more b.instr ≡ true → s.operands < operand_limit) → IsFine p new
+    pub came-fine : (o : Option Trap) → CameTo o (advanced_frame (store_of s.store) (call_of p.funcs f)) (store_of s.store, call_of p.funcs f) (store_of new.store, frame_of (code_at p.funcs f.func) g) → (leaves_more b.instr ≡ true → s.operands < operand_limit) → IsFine p new
     came-fine None e room = goes-fine e room
     came-fine (Some x) e room = same-fine (ap (λ (y : Store × Frame). y.0) e.1) (ap (λ (y : Store × Frame). y.1) e.1)

@@ -15,7 +15,7 @@ use Rattle.mv_frames.specs.declared.frame.Label.{Label}
 use Rattle.mv_frames.specs.declared.frame.Frame.{Frame as FlatFrame}
 use Rattle.mv_frames.specs.Arity.{arity_if}
 use Rattle.mv_frames.specs.Frames.{left_at, blocks_of, ArePlaced, IsPlaced}
-use Rattle.mv_machine.specs.States.{code_at, call_of, calls_of, ArePlacedIn, values_of, config_of, operands_in, HasPlace, IsAnswerable, IsGivenLast, IsFine}
+use Rattle.mv_machine.specs.States.{code_at, call_of, calls_of, ArePlacedIn, values_of, config_of, operands_in, KeepsPlace, IsAnswerable, IsGivenLast, IsFine}
 use Rattle.mv_machine.specs.declared.state.State.{State}
 use Rattle.mv_machine.specs.Copies.{IsSameFrame, AreSameFrames}
 
@@ -91,7 +91,7 @@ same-operands (f ∷ fs) [] h = absurd h
 same-operands (f ∷ fs) (g ∷ gs) h = omega (arith, ap (λ (l : List ℕ). length l) h.0.operands, same-operands fs gs h.1)
 
 -- a copy has place for one operand more, whatever waits
-has-place : (t : FuncType) (fs gs : List FlatFrame) → AreSameFrames fs gs → HasPlace t gs
+has-place : (t : FuncType) (fs gs : List FlatFrame) → AreSameFrames fs gs → KeepsPlace t gs
 has-place t [] [] h = tt
 has-place t [] (g ∷ gs) h = absurd h
 has-place t (f ∷ fs) [] h = absurd h
@@ -135,7 +135,8 @@ copied-config p s t c = by t.store.memory t.store.globals.items t.store.table.it
 pub copied-fine : (p : Parts) (s t : State) → IsFine p s → IsCopy s t → IsFine p t
 copied-fine p s t h c = record {
   program = h.program;
-  typed = subst (FitsConfig (module_context p)) (sym (copied-config p s t c)) (memory-fits (module_context p) (config_of p s) (disowned s.store.memory) h.typed.store.bytes h.typed.store.pages h.typed);
+  gives = h.gives;
+  typed = subst (FitsConfig (module_context p) h.gives) (sym (copied-config p s t c)) (memory-fits (module_context p) h.gives (config_of p s) (disowned s.store.memory) h.typed.store.bytes h.typed.store.pages h.typed);
   placed = copied-placed p.funcs s.frames.items t.frames.items c.frames h.placed;
   counted = c.operands ∙ h.counted ∙ ap operand_count (sym (same-calls p.funcs s.frames.items t.frames.items c.frames));
   operands = subst (λ n. n ≤ operand_limit) (sym c.operands) h.operands;

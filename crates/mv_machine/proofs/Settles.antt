@@ -7,7 +7,7 @@ use Rattle.mv_syntax.specs.declared.instr.Instr.TheVariants.{Block, Loop, If, El
 use Rattle.mv_syntax.specs.declared.module.Func.{Func}
 use Rattle.mv_syntax.specs.Sections.{Parts}
 use Rattle.mv_syntax.specs.Tree.{Tree, done, plain, block, loop, choice, Rest, in_front, ends_list}
-use Rattle.mv_syntax.specs.TreeLaws.{behind-at}
+use Rattle.mv_syntax.proofs.TreeLaws.{behind-at}
 use Rattle.mv_execution.specs.Config.{OpenBlock, Frame, Config}
 use Rattle.mv_execution.specs.Run.{is_done, open_blocks, is_none, settled_frames, with_frames, settled}
 use Rattle.mv_frames.specs.declared.frame.Label.{Label}

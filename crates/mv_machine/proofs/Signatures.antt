@@ -12,7 +12,7 @@ use Rattle.mv_syntax.specs.Sections.{Parts}
 use Rattle.mv_validator.specs.Valid.{IsValid}
 use Rattle.mv_execution.specs.Config.{Function}
 use Rattle.mv_execution.specs.Instance.{type_at, imported, defined, program_of}
-use Rattle.mv_execution.specs.Values.{same_type, same_types}
+use Rattle.mv_syntax.specs.Types.{same_type, same_types}
 
 and-false : (b : Bool) → (b && false) ≡ false
 and-false true = refl

@@ -1,5 +1,6 @@
 -- Calls through the table.
 use Rattle.std.proofs.Common.{true, false, cond, Bool, ◌≡◌, ℕ, ◌+◌, List, [], ◌∷◌, drop, Option, Some, None, refl, sym, ap, ◌∙◌, subst, arith, length-append}
+use Rattle.mv_syntax.specs.Types.{same_function_type}
 use Rattle.std.specs.Prelude.{reverse, map, slice_get, IfOk, Result, Ok, Err}
 use Rattle.std.proofs.lemmas.List.{length-map}
 use Rattle.std.proofs.lemmas.Option.{slice_get_within}
@@ -10,8 +11,8 @@ use Rattle.mv_syntax.specs.declared.types.FuncType.{FuncType}
 use Rattle.mv_syntax.specs.declared.instr.Instr.TheVariants.{CallIndirect}
 use Rattle.mv_syntax.specs.Sections.{Parts}
 use Rattle.mv_execution.specs.Config.{Function, Program, Frame, Config}
-use Rattle.mv_execution.specs.Values.{is_of, same_function_type}
-use Rattle.mv_execution.specs.Rows.{Out, Traps, Stuck, popping}
+use Rattle.mv_execution.specs.Values.{is_of}
+use Rattle.mv_execution.specs.Rows.{Out, Traps, Stuck, popping, IsGoing, CameTo}
 use Rattle.mv_execution.specs.Step.{invoked, called_entry, called_indirect}
 use Rattle.mv_execution.specs.Instance.{imported, defined, program_of}
 use Rattle.mv_execution.specs.Fits.{module_context}
@@ -20,7 +21,7 @@ use Rattle.mv_frames.specs.Frames.{frame_of}
 use Rattle.mv_frames.proofs.Advances.{moved}
 use Rattle.mv_machine.specs.declared.state.State.{State}
 use Rattle.mv_machine.specs.States.{code_at, call_of, config_of, IsFine}
-use Rattle.mv_machine.specs.Turns.{IsReady, IsGoing, CameTo, counted_step}
+use Rattle.mv_machine.specs.Turns.{IsReady, counted_step}
 use Rattle.mv_machine.specs.Calls.{call_above, HasFunction}
 use Rattle.mv_machine.proofs.Newest.{Newest}
 use Rattle.mv_machine.proofs.Entries.{StandsAt, caller_of, call-is, called-is, step-indirect, fine-step, fits-going}
@@ -71,7 +72,7 @@ caller_behind p f = frame_of (code_at p.funcs f.func) (moved f (f.at + 1))
 module _ (p : Parts) (s : State) (n : ℕ) (f : FlatFrame) (t : Newest s.frames.items n f) (y : ℕ) (st : StandsAt p f (CallIndirect y)) (fine : IsFine p s) (ready : IsReady (config_of p s)) where
   pub step-through : Through (program_of p) y (caller_behind p f)
   step-through =
-      through (program_of p) y (config_of p s) (map (call_of p.funcs) t.older) (caller_behind p f) (subst IsGoing (step-indirect p s n f t y st) (fits-going (module_context p) (counted_step (program_of p) (config_of p s)) (fine-step p s fine ready)))
+      through (program_of p) y (config_of p s) (map (call_of p.funcs) t.older) (caller_behind p f) (subst IsGoing (step-indirect p s n f t y st) (fits-going (module_context p) fine.gives (counted_step (program_of p) (config_of p s)) (fine-step p s fine ready)))
 
   pub step-entry : (place : ℕ) → reverse f.operands.items ≡ place ∷ drop 1 (reverse f.operands.items) → counted_step (program_of p) (config_of p s) ≡ called_entry (program_of p) step-through.ftype (slice_get s.store.table.items place) (config_of p s) (map (call_of p.funcs) t.older) (caller_of p.funcs 1 f)
   step-entry place e =

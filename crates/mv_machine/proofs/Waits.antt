@@ -11,7 +11,7 @@ use Rattle.mv_syntax.specs.declared.instr.Instr.{Instr}
 use Rattle.mv_syntax.specs.Sections.{Parts}
 use Rattle.mv_execution.specs.Config.{Function, frame_limit, operand_limit, operand_count}
 use Rattle.mv_execution.specs.Values.{arity_of}
-use Rattle.mv_execution.specs.Rows.{Goes, Traps}
+use Rattle.mv_execution.specs.Rows.{Goes, Traps, IsGoing}
 use Rattle.mv_execution.specs.Step.{within_limit, without_operands, begun}
 use Rattle.mv_execution.specs.Instance.{program_of, imported}
 use Rattle.mv_execution.specs.Fits.{FitsProgram, module_context}
@@ -20,7 +20,6 @@ use Rattle.mv_frames.specs.Frames.{frame_of}
 use Rattle.mv_frames.proofs.Advances.{moved}
 use Rattle.mv_machine.specs.declared.state.State.{State}
 use Rattle.mv_machine.specs.States.{code_at, call_of, calls_of, config_of, operands_in, IsAnswerable}
-use Rattle.mv_machine.specs.Turns.{IsGoing}
 use Rattle.mv_machine.specs.Calls.{call_above}
 use Rattle.mv_machine.proofs.Newest.{Newest, newest, operands-are, get_or-same}
 use Rattle.mv_machine.proofs.Signatures.{import-at}

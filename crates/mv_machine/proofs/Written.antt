@@ -2,6 +2,7 @@
 use Rattle.std.proofs.Common.{◌≡◌, ℕ, ◌+◌, ◌-◌, ◌≤◌, List, ◌∷◌, length, set, None, sym, ap, ◌∙◌, subst, arith}
 use Rattle.std.specs.Prelude.{reverse, map}
 use Rattle.std.proofs.lemmas.List.{length-set}
+use Rattle.mv_syntax.specs.declared.ops.ValType.{ValType}
 use Rattle.mv_syntax.specs.Sections.{Parts}
 use Rattle.mv_execution.specs.Config.{Store, Frame, Config, operand_limit, operand_count}
 use Rattle.mv_execution.specs.Fits.{FitsConfig, module_context}
@@ -30,12 +31,13 @@ module _ (p : Parts) (s : State) (n : ℕ) (f : FlatFrame) (t : Newest s.frames.
   same-config e k =
       written-config (store_of s.store) (call_of p.funcs f) e k ∙ ap (λ x. let c : Config = record (config_of p s) { frames = x } in c) (sym (calls-are p.funcs s.frames.items n f t))
 
-  pub written-fine : IsFine p s → IsPlaced (code_at p.funcs f.func) g → FitsConfig (module_context p) (config_of p new) → IsAnswerable p new.waiting (g ∷ t.older) → new.operands ≡ length g.operands.items + operand_count (map (call_of p.funcs) t.older) → new.operands ≤ operand_limit → IsFine p new
-  written-fine h here typed answerable ops bound =
+  pub written-fine : IsFine p s → IsPlaced (code_at p.funcs f.func) g → (gs : List ValType) → FitsConfig (module_context p) gs (config_of p new) → IsAnswerable p new.waiting (g ∷ t.older) → new.operands ≡ length g.operands.items + operand_count (map (call_of p.funcs) t.older) → new.operands ≤ operand_limit → IsFine p new
+  written-fine h here gs typed answerable ops bound =
       let frames = sym (ap reverse w.frames ∙ t.written g) in
       let none : s.given ≡ None = subst (IsGivenLast s.given) t.listed h.given in
       record {
         program = h.program;
+        gives = gs;
         typed = typed;
         placed = subst (λ x. ArePlacedIn p.funcs (reverse x)) (sym w.frames) (placed-written p.funcs s.frames.items n f t g h.placed same here);
         counted = ops ∙ sym (ap (λ x. operand_count (calls_of p.funcs x)) w.frames ∙ operands-written p.funcs s.frames.items n f t g);

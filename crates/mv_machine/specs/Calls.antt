@@ -1,5 +1,6 @@
 -- Calls and returns of the newest call, over trees, and at which instruction it stands in the code.
 use Rattle.std.specs.Prelude.{Bool, true, false, ◌≡◌, ℕ, ◌+◌, ◌<◌, ◌≤◌, List, [], ◌∷◌, ◌++◌, Option, Some, None, length, reverse, slice_get, take, if◌then◌else◌}
+use Rattle.mv_syntax.specs.Expressions.{is_plain}
 use Rattle.std.specs.Option.{option_map}
 use Rattle.mv_syntax.specs.declared.instr.Instr.{Instr}
 use Rattle.mv_syntax.specs.declared.instr.Instr.TheVariants.{Call, CallIndirect}
@@ -11,7 +12,7 @@ use Rattle.mv_execution.specs.Rows.{Out, Stuck}
 use Rattle.mv_execution.specs.Step.{without_operands, called}
 use Rattle.mv_execution.specs.Run.{is_none}
 use Rattle.mv_frames.specs.declared.frame.Frame.{Frame as FlatFrame}
-use Rattle.mv_frames.specs.Blocks.{is_plain, closed}
+use Rattle.mv_frames.specs.Blocks.{closed}
 use Rattle.mv_machine.specs.declared.state.State.{State}
 use Rattle.mv_machine.specs.States.{code_at}
 

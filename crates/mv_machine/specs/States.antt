@@ -1,5 +1,6 @@
 -- The configuration over trees for which the machine's state stands, and what holds of a state at every moment.
 use Rattle.std.specs.Prelude.{◌≡◌, ℕ, ◌+◌, ◌<◌, ◌≤◌, List, [], ◌∷◌, Option, Some, None, length, map, reverse, slice_get, vec_len, vec_capacity}
+use Rattle.mv_syntax.specs.declared.ops.ValType.{ValType}
 use Rattle.mv_syntax.specs.declared.instr.Instr.{Instr}
 use Rattle.mv_syntax.specs.declared.types.FuncType.{FuncType}
 use Rattle.mv_syntax.specs.declared.module.Func.{Func}
@@ -60,14 +61,14 @@ operands_in (f ∷ fs) = length f.operands.items + operands_in fs
 
 -- A call of an import without parameters that waits has a place for its result on the newest call's operands, so that the
 -- answer takes no memory. A call with parameters leaves theirs.
-abbrev pub HasPlace : FuncType → List FlatFrame → Type 0
-HasPlace t [] = Unit {0}
-HasPlace t (f ∷ fs) = t.params ≡ [] → vec_len f.operands < vec_capacity f.operands
+abbrev pub KeepsPlace : FuncType → List FlatFrame → Type 0
+KeepsPlace t [] = Unit {0}
+KeepsPlace t (f ∷ fs) = t.params ≡ [] → vec_len f.operands < vec_capacity f.operands
 
 -- with its result for its arguments a call that waits has no more operands than there may be
 abbrev pub IsAnswerable : Parts → Option ℕ → List FlatFrame → Type 0
 IsAnswerable p None fs = Unit {0}
-IsAnswerable p (Some x) fs = (t : FuncType) → func_type (module_context p) x ≡ Some t → HasPlace t fs × (operands_in fs + arity_of t.result ≤ operand_limit + length t.params)
+IsAnswerable p (Some x) fs = (t : FuncType) → func_type (module_context p) x ≡ Some t → KeepsPlace t fs × (operands_in fs + arity_of t.result ≤ operand_limit + length t.params)
 
 -- nothing was given while a call is open
 abbrev pub IsGivenLast : Option ℕ → List FlatFrame → Type 0
@@ -78,7 +79,9 @@ IsGivenLast given (f ∷ fs) = given ≡ None
 -- and no limit is passed.
 pub record IsFine (p : Parts) (s : State) : Type 0 where
   pub program : FitsProgram (module_context p) (program_of p)
-  pub typed : FitsConfig (module_context p) (config_of p s)
+  -- what the function gives that was entered
+  pub gives : List ValType
+  pub typed : FitsConfig (module_context p) gives (config_of p s)
   pub placed : ArePlacedIn p.funcs (reverse s.frames.items)
   pub counted : s.operands ≡ operand_count (calls_of p.funcs s.frames.items)
   pub operands : s.operands ≤ operand_limit

@@ -8,7 +8,7 @@ use Rattle.mv_machine.specs.declared.turns.Front.TheVariants as fronts
 use Rattle.mv_machine.specs.declared.run.Stop.{Stop as FlatStop}
 use Rattle.mv_machine.specs.declared.run.Stop.TheVariants as stops
 use Rattle.mv_execution.specs.Config.{Program, OpenBlock, Frame, Config}
-use Rattle.mv_execution.specs.Rows.{Out, Goes, Traps, Stuck}
+use Rattle.mv_execution.specs.Rows.{Out, Goes, Traps}
 use Rattle.mv_execution.specs.Step.{counted, step_of}
 use Rattle.mv_execution.specs.Run.{is_done, settled, stop_of, run, Stop, Import, Ended, Trapped, Fuel}
 use Rattle.mv_machine.specs.States.{values_of}
@@ -23,16 +23,6 @@ pub record IsReady (c : Config) : Type 0 where
   pub waiting : c.waiting ≡ None
   pub given : c.given ≡ []
   pub calls : AreReady c.frames
-
-abbrev pub IsGoing : {A : Type 0} → Out A → Type 0
-IsGoing (Goes next) = Unit {0}
-IsGoing (Traps t) = Unit {0}
-IsGoing Stuck = ⊥
-
--- what an instruction came to: it went on to this configuration, or trapped, and all is as before
-abbrev pub CameTo : Option Trap → Out Config → Config → Config → Type 0
-CameTo None out old new = out ≡ Goes new
-CameTo (Some t) out old new = (out ≡ Traps t) × (new ≡ old)
 
 -- the same of an instruction that counts: it has counted, also where it trapped
 abbrev pub WentOn : Option Trap → Out Config → Config → Config → Type 0

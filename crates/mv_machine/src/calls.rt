@@ -4,12 +4,12 @@ ghost use Rattle.std.specs.Prelude.{◌≡◌, ◌≤◌, ◌<◌, ◌+◌, ◌�
 ghost use Rattle.mv_frames.specs.Arity.{arity_if};
 ghost use Rattle.mv_validator.specs.Valid.{IsValid};
 ghost use Rattle.mv_execution.specs.Config.{Function};
-ghost use Rattle.mv_execution.specs.Values.{same_type, same_types, same_function_type};
+ghost use Rattle.mv_syntax.specs.Types.{same_type, same_types, same_function_type};
 ghost use Rattle.mv_execution.specs.Instance.{program_of};
-ghost use Rattle.mv_execution.specs.Rows.{Goes};
+ghost use Rattle.mv_execution.specs.Rows.{Goes, IsGoing, CameTo};
 ghost use Rattle.mv_execution.specs.Rises.{leaves_more};
 ghost use Rattle.mv_machine.specs.States.{code_at, config_of, values_of, IsFine, open_count};
-ghost use Rattle.mv_machine.specs.Turns.{IsReady, IsGoing, CameTo, counted_step};
+ghost use Rattle.mv_machine.specs.Turns.{IsReady, counted_step};
 ghost use Rattle.mv_machine.specs.Calls.{call_above, IsAtCall, IsAtIndirect, IsAtPlain, HasFunction, closed_newest, returned_newest};
 
 use crate::state::{FRAME_LIMIT, OPERAND_LIMIT, State};

@@ -17,8 +17,8 @@ fn copy_operands(alloc: Global, operands: &[u64]) -> Result<Vec<u64>, OutOfMemor
     ensures same { IfOk result (λ copy. copy.items ≡ operands.now) }
     ensures place { IfOk result (λ copy. vec_len copy < vec_capacity copy) }
 {
-    let mut copy = Vec::from_slice(alloc, operands)?;
-    copy.reserve(1)?;
+    let mut copy = Vec::with_capacity(alloc, operands.len() + 1)?;
+    copy.extend_from_slice(operands)?;
     Ok(copy)
 }
 

@@ -1,6 +1,8 @@
 //! A machine, and what is done with it from outside.
 
-ghost use Rattle.std.specs.Prelude.{◌≡◌, ◌<◌, ◌≤◌, [], ℕ, Some, None, IsSome, IsNone, IfSome, IfOk, OnOk, OnErr, length, slice_get};
+ghost use Rattle.std.specs.Prelude.{◌≡◌, ◌<◌, ◌≤◌, [], ℕ, List, Some, None, IsSome, IsNone, IfSome, IfOk, OnOk, OnErr, length, slice_get};
+ghost use Rattle.mv_syntax.specs.declared.module.Global.{Global as Variable};
+ghost use Rattle.mv_syntax.specs.declared.ops.ValType.{ValType as TypeOfValue};
 ghost use Rattle.mv_syntax.specs.declared.types.FuncType.{FuncType as Signature};
 ghost use Rattle.mv_validator.specs.Types.{operands_of};
 ghost use Rattle.mv_validator.specs.Typing.{func_type};
@@ -9,11 +11,11 @@ ghost use Rattle.mv_memory.specs.Memory.{disowned};
 ghost use Rattle.mv_execution.specs.Config.{frame_limit, gap_limit, operand_count, operand_limit};
 ghost use Rattle.mv_execution.specs.Instance.{program_of, new_config, with_element, with_memory};
 ghost use Rattle.mv_execution.specs.Run.{entered, arguments, answered, with_new_gap, param_count};
-ghost use Rattle.mv_execution.specs.Fits.{AreOf, FitsConfig, FitsProgram, module_context};
+ghost use Rattle.mv_execution.specs.Fits.{IsOf, AreOf, FitsConfig, FitsProgram, module_context};
 ghost use Rattle.mv_machine.specs.States.{values_of};
 ghost use Rattle.mv_machine.specs.Calls.{HasFunction};
 ghost use Rattle.mv_machine.specs.Turns.{StopIs};
-ghost use Rattle.mv_machine.specs.Stops.{StopStands};
+ghost use Rattle.mv_machine.specs.Stops.{StopStands, StopFits};
 ghost use Rattle.mv_machine.specs.Memories.{IsMemory};
 ghost use Rattle.mv_machine.specs.Lending.{LendsMemory};
 ghost use Rattle.std.specs.Borrow.{sem};
@@ -42,7 +44,7 @@ pub struct Machine {
 
 impl Model for Machine {
     ghost use Rattle.mv_machine.specs.Executions.{Execution};
-    ghost use Rattle.mv_syntax.specs.TreeCode.{tree_code, Mark};
+    ghost use Rattle.mv_syntax.proofs.TreeCode.{tree_code, Mark};
     ghost use Rattle.mv_syntax.specs.contracts.instr.Instr as instr;
     ghost use Rattle.mv_syntax.specs.contracts.ops.ValType as vtype;
     ghost use Rattle.std.specs.Coded.{codes, Coded};
@@ -92,7 +94,7 @@ impl Machine {
     pub fn keeps(&self)
         ensures valid { IsValid self.now.parts }
         ensures program { FitsProgram (module_context self.now.parts) (program_of self.now.parts) }
-        ensures typed { FitsConfig (module_context self.now.parts) self.now.config }
+        ensures typed { (gs : List TypeOfValue) × FitsConfig (module_context self.now.parts) gs self.now.config }
         ensures calls { length self.now.config.frames ≤ frame_limit }
         ensures operands { operand_count self.now.config.frames ≤ operand_limit }
         ensures gap { self.now.config.gap ≤ gap_limit }
@@ -138,12 +140,13 @@ impl Machine {
     }
 
     /// Enters a function without parameters, where no call is left (WebAssembly Core 1.0, 4.5.5). An imported one waits for its
-    /// answer at once. For want of memory nothing changes.
+    /// answer at once. What a run of it gives is of the result's type. For want of memory nothing changes.
     pub fn enter(&mut self, alloc: Global, func: u32) -> Result<(), OutOfMemory>
         requires idle { self.old.config.frames ≡ [] }
         requires there { HasFunction self.old.parts func }
         requires no_parameter { (t : Signature) → func_type (module_context self.old.parts) func ≡ Some t → t.params ≡ [] }
         ensures ok { OnOk result (self.new ≡ record self.old { config = entered (program_of self.old.parts) func self.old.config }) }
+        ensures gives { (t : Signature) → OnOk result (func_type (module_context self.old.parts) func ≡ Some t → FitsConfig (module_context self.old.parts) (operands_of t.result) self.new.config) }
         ensures err { OnErr result (self.new ≡ self.old) }
     {
         keeps_memory(&self.state.store.memory);
@@ -151,10 +154,11 @@ impl Machine {
         enter_function(alloc, module.module(), &mut self.state, func)
     }
 
-    /// The value of a global; an i32 is below 2^32.
+    /// The value of a global; it is of the global's type, so an i32 is below 2^32.
     pub fn global(&self, n: u32) -> u64
         requires { n < length self.now.parts.globals }
-        ensures { slice_get self.now.config.store.globals n ≡ Some result }
+        ensures is { slice_get self.now.config.store.globals n ≡ Some result }
+        ensures fits { (global : Variable) → slice_get self.now.parts.globals n ≡ Some global → IsOf global.vtype result }
     {
         keeps_memory(&self.state.store.memory);
         self.state.store.globals[n as usize]
@@ -167,9 +171,12 @@ impl Machine {
     /// `Fuel` comes exactly where `fuel` instructions counted, the machine hasn't stopped otherwise, and another one stands in
     /// front. With the gap at 50,000,000 the next instruction traps Spent, and where the fuel is used up too, `Fuel` comes.
     /// `Memory` leaves the machine between two instructions: the rest of the run is still to come.
+    ///
+    /// A run keeps the types of what was entered; where it has ended, its result is of the type that `enter` told.
     pub fn run(&mut self, alloc: Global, fuel: u32) -> Stop
         ensures stop { StopIs result (program_of self.old.parts) fuel self.old.config self.new.config }
         ensures stands { StopStands result self.new.config }
+        ensures fits { (gs : List TypeOfValue) → FitsConfig (module_context self.old.parts) gs self.old.config → StopFits (module_context self.old.parts) gs result self.new.config }
         ensures same { self.new.parts ≡ self.old.parts }
     {
         keeps_memory(&self.state.store.memory);
@@ -177,11 +184,12 @@ impl Machine {
         run(alloc, module.module(), &mut self.state, fuel)
     }
 
-    /// An argument of the imported function that waits for its answer; the first one is 0.
+    /// An argument of the imported function that waits for its answer; the first one is 0. It is of its parameter's type.
     pub fn arg(&self, n: u32) -> u64
         requires waits { IsSome self.now.config.waiting }
         requires within { (x : ℕ) (t : Signature) → self.now.config.waiting ≡ Some x → func_type (module_context self.now.parts) x ≡ Some t → n < length t.params }
-        ensures { slice_get (arguments (program_of self.now.parts) self.now.config) n ≡ Some result }
+        ensures is { slice_get (arguments (program_of self.now.parts) self.now.config) n ≡ Some result }
+        ensures fits { (x : ℕ) (t : Signature) (vtype : TypeOfValue) → self.now.config.waiting ≡ Some x → func_type (module_context self.now.parts) x ≡ Some t → slice_get t.params n ≡ Some vtype → IsOf vtype result }
     {
         keeps_memory(&self.state.store.memory);
         let module: &ValidModule = &self.module;

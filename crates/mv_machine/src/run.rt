@@ -1,11 +1,12 @@
 //! Runs: one counted instruction after the other.
 
 ghost use Rattle.std.specs.Prelude.{◌≡◌, ◌<◌, ◌+◌, OnErr, IfOk};
+ghost use Rattle.mv_execution.specs.Rows.{CameTo};
 ghost use Rattle.mv_validator.specs.Valid.{IsValid};
 ghost use Rattle.mv_execution.specs.Instance.{program_of};
 ghost use Rattle.mv_execution.specs.Step.{step};
 ghost use Rattle.mv_machine.specs.States.{config_of, IsFine};
-ghost use Rattle.mv_machine.specs.Turns.{IsReady, CameTo, StopIs, counted_step, WentOn};
+ghost use Rattle.mv_machine.specs.Turns.{IsReady, StopIs, counted_step, WentOn};
 
 use crate::calls::{advance_newest, call_function, call_indirect};
 use crate::state::{GAP_LIMIT, State};

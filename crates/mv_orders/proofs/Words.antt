@@ -9,7 +9,7 @@ use Rattle.mv_calls.specs.declared.fault.Or.{Or}
 use Rattle.mv_calls.specs.declared.fault.Or.TheVariants as or
 use Rattle.std.specs.Prelude.{IfOk}
 use Rattle.mv_calls.specs.Or.{IfFault}
-use Rattle.mv_orders.specs.Answers.{Answers}
+use Rattle.mv_orders.specs.Answers.{AllowsAnswer}
 use Rattle.mv_orders.specs.declared.order.Order.{Order}
 use Rattle.mv_orders.specs.declared.order.Order.TheVariants.{Update, Promote, Discard, Finish, Back, Halt, Status}
 use Rattle.mv_orders.specs.declared.order.OrderFault.{OrderFault}
@@ -88,7 +88,7 @@ no_order line none order is =
     none order e (subst (AllByRecursion (λ w. 0 < length w)) (sym e) (full_words (order_words order) is.words))
 
 -- what the words give is what the line gives
-pub line_reads : (line : List ℕ) (r : Result Order (Or OrderFault)) → length line ≤ line_limit → IsUtf8 line → Answers (ReadsWords (cut line)) r → Answers (Reads line) r
+pub line_reads : (line : List ℕ) (r : Result Order (Or OrderFault)) → length line ≤ line_limit → IsUtf8 line → AllowsAnswer (ReadsWords (cut line)) r → AllowsAnswer (Reads line) r
 line_reads line (Ok order) short text given = (short, text, order_from_cut line order given.0 given.1)
 line_reads line (Err (or.Fault Long)) short text given = absurd given
 line_reads line (Err (or.Fault Utf8)) short text given = absurd given
@@ -141,11 +141,11 @@ same_reading line (Err Unknown) (Err Unknown) p q = refl
 
 -- ---- the two clauses of an answer
 
-pub answers_ok : {X E : Type 0} (P : Result X E → Type 0) (r : Result X (Or E)) → Answers P r → IfOk r (λ x. P (Ok x))
+pub answers_ok : {X E : Type 0} (P : Result X E → Type 0) (r : Result X (Or E)) → AllowsAnswer P r → IfOk r (λ x. P (Ok x))
 answers_ok P (Ok x) is = is
 answers_ok P (Err e) is = tt
 
-pub answers_fault : {X E : Type 0} (P : Result X E → Type 0) (r : Result X (Or E)) → Answers P r → IfFault r (λ e. P (Err e))
+pub answers_fault : {X E : Type 0} (P : Result X E → Type 0) (r : Result X (Or E)) → AllowsAnswer P r → IfFault r (λ e. P (Err e))
 answers_fault P (Ok x) is = tt
 answers_fault P (Err (or.Fault e)) is = is
 answers_fault P (Err or.OutOfMemory) is = tt

@@ -9,6 +9,6 @@ OfFault P (or.Fault fault) = P (Err fault)
 OfFault P or.OutOfMemory = Unit {0}
 
 -- the answer is one that P allows, or memory was wanted
-abbrev pub Answers : {X E : Type 0} → (Result X E → Type 0) → Result X (Or E) → Type 0
-Answers P (Ok value) = P (Ok value)
-Answers P (Err fault) = OfFault P fault
+abbrev pub AllowsAnswer : {X E : Type 0} → (Result X E → Type 0) → Result X (Or E) → Type 0
+AllowsAnswer P (Ok value) = P (Ok value)
+AllowsAnswer P (Err fault) = OfFault P fault

@@ -5,7 +5,7 @@ ghost use Rattle.std.specs.List.{slice_split};
 ghost use Rattle.mv_orders.specs.declared.order.Order.{Order};
 ghost use Rattle.mv_orders.specs.declared.order.OrderFault.{OrderFault};
 ghost use Rattle.mv_calls.specs.Or.{IfFault};
-ghost use Rattle.mv_orders.specs.Answers.{Answers};
+ghost use Rattle.mv_orders.specs.Answers.{AllowsAnswer};
 ghost use Rattle.mv_orders.specs.Order.{HasTextPaths, Reads, ReadsWords, order_words};
 
 use mv_calls::{Bytes, Or, OutOfMemory};
@@ -76,7 +76,7 @@ fn words_of(alloc: Global, line: &[u8]) -> Result<Vec<&[u8]>, OutOfMemory>
 
 /// The order of some words.
 fn order_from_words(alloc: Global, words: &[&[u8]]) -> Result<Order, Or<OrderFault>>
-    ensures { Answers (ReadsWords (map (λ w. w.now) words.now)) result }
+    ensures { AllowsAnswer (ReadsWords (map (λ w. w.now) words.now)) result }
 {
     if words.len() == 1 {
         simple_order(words[0]).ok_or(Or::Fault(OrderFault::Unknown))
@@ -95,7 +95,7 @@ fn update_order(
     forward: &[u8],
     reverse: &[u8],
 ) -> Result<Order, Or<OrderFault>>
-    ensures { Answers (ReadsWords (name.now ∷ module_path.now ∷ forward.now ∷ reverse.now ∷ [])) result }
+    ensures { AllowsAnswer (ReadsWords (name.now ∷ module_path.now ∷ forward.now ∷ reverse.now ∷ [])) result }
 {
     if name != b"update".as_slice() {
         return Err(Or::Fault(OrderFault::Unknown));

@@ -6,11 +6,11 @@ use Rattle.mv_syntax.specs.declared.fault.ReadFault.{ReadFault}
 use Rattle.mv_syntax.specs.declared.fault.ReadKind.{ReadKind}
 use Rattle.mv_syntax.specs.declared.instr.Instr.{Instr}
 use Rattle.mv_syntax.specs.Form.{At, after}
-use Rattle.mv_syntax.specs.FormLaws.{judged}
+use Rattle.mv_syntax.specs.Forms.{judged}
 use Rattle.mv_syntax.specs.Instructions.{instruction}
 use Rattle.mv_syntax.specs.Nesting.{nest}
 use Rattle.mv_syntax.specs.Bodies.{nowhere, nested, goes_on, closing}
-use Rattle.mv_syntax.specs.BodyLaws.{Same, step_same, ended_instruction, instruction_shorter, enough}
+use Rattle.mv_syntax.proofs.BodyLaws.{Same, step_same, ended_instruction, instruction_shorter, enough}
 use Rattle.mv_syntax.specs.Reading.{Fails}
 use Rattle.mv_reader.proofs.Loops.{with_front, regroup}
 

@@ -6,7 +6,7 @@ use Rattle.mv_syntax.specs.declared.fault.ReadFault.{ReadFault}
 use Rattle.mv_syntax.specs.Form.{At, after}
 use Rattle.mv_syntax.specs.Sections.{Parts, Sections, section}
 use Rattle.mv_syntax.specs.Modules.{finished, sections_from}
-use Rattle.mv_syntax.specs.ModuleLaws.{section_shorter}
+use Rattle.mv_syntax.proofs.ModuleLaws.{section_shorter}
 use Rattle.mv_syntax.specs.Reading.{Fails}
 
 abbrev go_on : (Sections → At → ℕ) → Result (Sections × At) ReadFault → Result Parts ReadFault

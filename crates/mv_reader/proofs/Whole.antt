@@ -7,7 +7,7 @@ use Rattle.mv_calls.specs.Or.{IsFault}
 use Rattle.mv_syntax.specs.declared.fault.ReadFault.{ReadFault}
 use Rattle.mv_syntax.specs.Sections.{Parts}
 use Rattle.mv_syntax.specs.Modules.{Spells, HasSpelling, AreBytes, module_at}
-use Rattle.mv_syntax.specs.ModuleLaws.{module_sound, module_complete}
+use Rattle.mv_syntax.proofs.ModuleLaws.{module_sound, module_complete}
 use Rattle.mv_syntax.specs.Reading.{Gives}
 
 pub has_spelling : (file : List ℕ) (p : Parts) → AreBytes file → module_at file ≡ Ok p → HasSpelling p

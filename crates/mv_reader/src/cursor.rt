@@ -1,8 +1,7 @@
 //! Where the reader stands.
 ghost use Rattle.std.specs.Prelude.{◌≡◌, ◌==◌, ◌+◌, Err, length, take, drop, nat_lt};
 ghost use Rattle.mv_syntax.specs.Form.{At, past};
-ghost use Rattle.mv_syntax.specs.Forms.{byte, bytes};
-ghost use Rattle.mv_syntax.specs.FormLaws.{split_from, window};
+ghost use Rattle.mv_syntax.specs.Forms.{byte, bytes, split_from, window};
 ghost use Rattle.mv_syntax.specs.Reading.{Reads, Judges, Ends};
 
 use mv_calls::Or;

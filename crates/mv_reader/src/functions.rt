@@ -1,5 +1,5 @@
 //! Functions: their locals and their bodies.
-ghost use Rattle.std.specs.Prelude.{◌≡◌, ◌≤◌, ◌-◌, ◌++◌, [], length, replicate, OnOk};
+ghost use Rattle.std.specs.Prelude.{◌≡◌, ◌≤◌, ◌-◌, [], length};
 ghost use Rattle.mv_syntax.specs.Forms.{each_of};
 ghost use Rattle.mv_syntax.specs.Parts.{run, runs, body, func};
 ghost use Rattle.mv_syntax.specs.Reading.{Reads};
@@ -9,27 +9,17 @@ use crate::cursor::{Cursor, fault};
 use crate::numbers::u32_at;
 use crate::types::val_type_at;
 use mv_calls::Or;
-use mv_syntax::{Func, ReadFault, ReadKind, ValType, ValTypes};
-use std::alloc::{AllocError, Global};
+use mv_syntax::{Func, Locals, ReadFault, ReadKind};
+use std::alloc::Global;
 
 /// The most locals that a function declares.
 const MOST_LOCALS: usize = 10_000;
 
-/// Adds one type so many times.
-fn add_run(locals: &mut Vec<ValType>, count: u32, vtype: ValType) -> Result<(), AllocError>
-    ensures { OnOk result (locals.new.items ≡ locals.old.items ++ replicate count vtype) }
-{
-    for _ in 0..count {
-        locals.push(vtype)?;
-    }
-    Ok(())
-}
-
 /// The locals of a function, in so many runs.
-fn locals_at(alloc: Global, count: u32, at: &mut Cursor<'_>) -> Result<Vec<ValType>, Or<ReadFault>>
-    ensures { Reads (λ v. v.items) result at.new ((runs count []).reads at.old) }
+pub fn locals_at(alloc: Global, count: u32, at: &mut Cursor<'_>) -> Result<Locals, Or<ReadFault>>
+    ensures { Reads (λ v. v) result at.new ((runs count []).reads at.old) }
 {
-    let mut locals = Vec::new(alloc);
+    let mut locals = Locals::new(alloc);
     for _ in 0..count {
         run_at(&mut locals, at)?;
     }
@@ -38,8 +28,8 @@ fn locals_at(alloc: Global, count: u32, at: &mut Cursor<'_>) -> Result<Vec<ValTy
 
 /// One run of locals, behind those before it.
 #[tactic(auto, unfolding(mv_syntax::specs::Parts::run))]
-fn run_at(locals: &mut Vec<ValType>, at: &mut Cursor<'_>) -> Result<(), Or<ReadFault>>
-    ensures { Reads (λ _. locals.new.items) result at.new ((run locals.old.items).reads at.old) }
+fn run_at(locals: &mut Locals, at: &mut Cursor<'_>) -> Result<(), Or<ReadFault>>
+    ensures { Reads (λ _. locals.new) result at.new ((run locals.old).reads at.old) }
 {
     let start = at.place();
     let count = u32_at(at)?;
@@ -47,7 +37,7 @@ fn run_at(locals: &mut Vec<ValType>, at: &mut Cursor<'_>) -> Result<(), Or<ReadF
         return fault(start, ReadKind::Limit);
     }
     let vtype = val_type_at(at)?;
-    add_run(locals, count, vtype)?;
+    locals.push_run(count as usize, vtype)?;
     Ok(())
 }
 
@@ -56,7 +46,7 @@ fn body_at(alloc: Global, ftype: u32, at: &mut Cursor<'_>) -> Result<Func, Or<Re
     ensures { Reads (λ f. f) result at.new ((body ftype).reads at.old) }
 {
     let count = u32_at(at)?;
-    let locals = ValTypes::from_vec(locals_at(alloc, count, at)?);
+    let locals = locals_at(alloc, count, at)?;
     let code = code_at(alloc, at)?;
     Ok(Func {
         ftype,

@@ -2,6 +2,8 @@
 //! WebAssembly Core 1.0, section 5, and docs/FORMATS.md.
 
 use super::*;
+use crate::cursor::Cursor;
+use crate::functions::locals_at;
 use mv_calls::Or;
 use mv_syntax::{
     Export, Func, FuncType, Import, Instr, Limits, ReadFault, ReadKind, Segment, ValType,
@@ -100,14 +102,30 @@ fn is_hellos_code(code: &[Instr]) -> bool {
 }
 
 fn is_hellos_function(function: &Func) -> bool {
-    function.ftype == 2
-        && function.locals.slice().is_empty()
-        && is_hellos_code(function.code.slice())
+    function.ftype == 2 && function.locals.len() == 0 && is_hellos_code(function.code.slice())
 }
 
 fn is_hellos_data(segment: &Segment) -> bool {
     segment.offset.slice().len() == 2
         && segment.bytes.slice() == b"\x08\0\0\0\x03\0\0\0hi\n".as_slice()
+}
+
+/// Two of one type, none of the other, one of that, and one of the first again.
+#[test]
+fn a_local_has_the_type_of_its_run(rt: HostRuntime) -> Result<(), Fail> {
+    let mut at = Cursor::new(b"\x02\x7f\x00\x7e\x01\x7e\x01\x7f");
+    let locals = locals_at(rt.alloc(), 4, &mut at)?;
+    let types = [
+        Some(ValType::I32),
+        Some(ValType::I32),
+        Some(ValType::I64),
+        Some(ValType::I32),
+        None,
+    ];
+    for (index, vtype) in types.iter().enumerate() {
+        assert_eq!(rt; locals.get(index), *vtype);
+    }
+    Ok(())
 }
 
 #[test]

@@ -342,7 +342,7 @@ fn comes_to(
     status: u8,
 ) -> Result<bool, OutOfMemory> {
     let outcome = rehearsed(alloc, letter, lines, letters, fail_call, 99)?;
-    Ok(words(alloc, &outcome.log)?.as_str() == want && outcome.status == status)
+    Ok(words(alloc, &outcome.log)?.as_str() == want && outcome.status.code() == status)
 }
 
 /// Whether the operator is told this, where the read of a file with this number fails.

@@ -12,7 +12,8 @@ use Rattle.mv_rewrite.specs.Bound.{Bound, unbound}
 use Rattle.mv_rewrite.specs.declared.fit.Fit.{Fit}
 use Rattle.mv_rewrite.specs.declared.fit.Fit.TheVariants.{Whole, Short, Not}
 use Rattle.mv_rewrite.specs.Matching.{bind_item, guards_pass, bind_guarded, only_if, fit_after, fit_of, rule_fit, made_by, is_short, front_of, could_match}
-use Rattle.mv_rewrite.specs.Matches.{Agrees, names_of_part, parts_in, byte_names, ItemsUnder, GuardsHold, MatchesUnder, MatchesFront, CouldMatch, WaitsOn}
+use Rattle.mv_rules.specs.Names.{parts_in}
+use Rattle.mv_rewrite.specs.Matches.{Agrees, names_of_part, byte_names, ItemsUnder, GuardsHold, MatchesUnder, MatchesFront, CouldMatch, WaitsOn}
 use Rattle.mv_rewrite.proofs.BindingLaws.{fit_matches, fitted, same_bound}
 use Rattle.mv_rewrite.proofs.MatchesLaws.{item_goes, unbound_agrees}
 use Rattle.mv_rewrite.proofs.NamesLaws.{AreBound, item_adds, bound_after, hold_pass, hold_fewer, whole_holds}

@@ -20,7 +20,8 @@ use Rattle.mv_rules.specs.declared.rule.Pattern.{Pattern}
 use Rattle.mv_rules.specs.declared.rule.Pattern.TheVariants as patterns
 use Rattle.mv_rewrite.specs.Bound.{Bound, unbound}
 use Rattle.mv_rewrite.specs.Matching.{value_of, bind_found, bind, bind_fd, bind_time, bind_bytes, bind_part, bind_parts, only_if, bind_item, fd_value, time_value, bytes_value, made_of, trimmed}
-use Rattle.mv_rewrite.specs.Matches.{Agrees, HaveValues, PartsHold, parts_in}
+use Rattle.mv_rules.specs.Names.{parts_in}
+use Rattle.mv_rewrite.specs.Matches.{Agrees, HaveValues, PartsHold}
 
 pushed_at : {V : Type 0} (test : Bool) (first : V) (rest longer : Option V) (v : V) (P : Type 0)
     → (longer ≡ Some v → (rest ≡ Some v) ⊎ P)

@@ -25,7 +25,8 @@ use Rattle.mv_rules.specs.declared.rule.Guard.{Guard}
 use Rattle.mv_rewrite.specs.Bound.{Bound, unbound}
 use Rattle.mv_rewrite.specs.declared.fit.Fit.TheVariants.{Whole}
 use Rattle.mv_rewrite.specs.Matching.{value_of, bind_found, bind, bind_fd, bind_time, bind_bytes, bind_part, bind_parts, only_if, bind_item, stands_to, guard_passes, guards_pass, bind_guarded, bytes_named, fit_of}
-use Rattle.mv_rewrite.specs.Matches.{Agrees, parts_in, names_of_part, byte_names, is_among, StandsTo, GuardHolds, GuardsHold}
+use Rattle.mv_rules.specs.Names.{parts_in}
+use Rattle.mv_rewrite.specs.Matches.{Agrees, names_of_part, byte_names, is_among, StandsTo, GuardHolds, GuardsHold}
 use Rattle.mv_rewrite.proofs.BindingLaws.{mapped, chained, tested, guarded, guarded_binds, fitted}
 
 or_false : (b : Bool) → b ≡ (b || false)

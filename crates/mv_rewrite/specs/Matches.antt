@@ -8,11 +8,11 @@ use Rattle.mv_calls.specs.declared.calls.Reply.{Reply}
 use Rattle.mv_rules.specs.declared.rule.Part.{Part}
 use Rattle.mv_rules.specs.declared.rule.Part.TheVariants.{Text, Sized, Named, Length}
 use Rattle.mv_rules.specs.declared.rule.Pattern.{Pattern}
-use Rattle.mv_rules.specs.declared.rule.Pattern.TheVariants as patterns
 use Rattle.mv_rules.specs.declared.rule.Comparison.{Comparison}
 use Rattle.mv_rules.specs.declared.rule.Comparison.TheVariants.{Equal, Less, Greater}
 use Rattle.mv_rules.specs.declared.rule.Guard.{Guard}
 use Rattle.mv_rules.specs.declared.rule.Rule.{Rule}
+use Rattle.mv_rules.specs.Names.{parts_in}
 use Rattle.mv_rewrite.specs.Bound.{Bound}
 use Rattle.mv_rewrite.specs.Matching.{bytes_named, bytes_value, made_of, trimmed, value_of}
 
@@ -29,14 +29,6 @@ PartHolds d (Length name) behind = ⊥
 abbrev pub PartsHold : Bound → List Part → Type 0
 PartsHold d [] = Unit {0}
 PartsHold d (part ∷ parts) = PartHolds d part (bytes_value parts d) × PartsHold d parts
-
--- the parts of a pattern's bytes
-abbrev pub parts_in : Pattern → List Part
-parts_in (patterns.Read fd bytes) = bytes
-parts_in (patterns.Write fd bytes) = bytes
-parts_in (patterns.WriteErrno fd bytes errno) = bytes
-parts_in (patterns.Random bytes) = bytes
-parts_in pattern = []
 
 -- the binding makes the item line this item
 abbrev pub ItemUnder : Bound → Pattern → Call × Reply → Type 0

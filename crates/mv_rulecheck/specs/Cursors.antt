@@ -20,9 +20,9 @@ atom_seen atom = (atom.fd.now, piece_seen atom.piece)
 abbrev pub reading_left : Reading → List (FdTerm × Piece)
 reading_left r = map (λ piece. (r.fd.now, piece)) (map Byte r.text.now ++ pieces_of r.parts.now)
 
-abbrev pub begun : Option Reading → List (FdTerm × Piece)
-begun None = []
-begun (Some r) = reading_left r
+abbrev pub begun_pieces : Option Reading → List (FdTerm × Piece)
+begun_pieces None = []
+begun_pieces (Some r) = reading_left r
 
 abbrev pub atoms_left : Cursor → List (FdTerm × Piece)
-atoms_left c = begun c.reading ++ read_atoms c.patterns.now
+atoms_left c = begun_pieces c.reading ++ read_atoms c.patterns.now

@@ -2,7 +2,7 @@
 ghost use Rattle.std.specs.Prelude.{◌≡◌, ◌↔◌, ◌∷◌, ◌<◌, [], IsTrue, MatchOption};
 ghost use Rattle.mv_rulecheck.specs.Atoms.{accepts, read_atoms, read_atoms_of};
 ghost use Rattle.mv_rulecheck.specs.Weights.{begun_weight, pattern_weight};
-ghost use Rattle.mv_rulecheck.specs.Cursors.{atoms_left, atom_seen, begun, piece_seen};
+ghost use Rattle.mv_rulecheck.specs.Cursors.{atoms_left, atom_seen, begun_pieces, piece_seen};
 
 use mv_calls::Bytes;
 use mv_rules::{FdTerm, Part, Pattern};
@@ -39,7 +39,7 @@ pub struct AtomRef<'a> {
 
 /// The read that a pattern begins.
 fn opened(pattern: &Pattern) -> Option<Reading<'_>>
-    ensures atoms { begun result ≡ read_atoms_of pattern.now }
+    ensures atoms { begun_pieces result ≡ read_atoms_of pattern.now }
     ensures weight { begun_weight result < pattern_weight pattern.now }
 {
     match pattern {

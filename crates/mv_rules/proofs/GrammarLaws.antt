@@ -40,7 +40,7 @@ version_is line =
     by_version (bytes_eq line (codes "mvrules 1")) _ _ P (λ e. (bytes_eq-Decides line (codes "mvrules 1")).0 e)
     (by_version (bytes_eq line (codes "mvrules 2")) _ _ P (λ e. (bytes_eq-Decides line (codes "mvrules 2")).0 e) tt)
 
-version_given : (version : Version) → version_of (header version) ≡ Some version
+pub version_given : (version : Version) → version_of (header version) ≡ Some version
 version_given First = refl
 version_given Second = refl
 
@@ -49,13 +49,13 @@ header_given line version e = ap version_of e ∙ version_given version
 
 -- ## The rules
 
-not_large : (n : ℕ) → nat_lt 65536 n ≡ false → n ≤ 65536
+pub not_large : (n : ℕ) → nat_lt 65536 n ≡ false → n ≤ 65536
 not_large n h = grind (arith, common_steps, h)
 
 large : (n : ℕ) → nat_lt 65536 n ≡ true → 65536 < n
 large n h = grind (arith, common_steps, h)
 
-is_small : (n : ℕ) → n ≤ 65536 → nat_lt 65536 n ≡ false
+pub is_small : (n : ℕ) → n ≤ 65536 → nat_lt 65536 n ≡ false
 is_small n h = grind (arith, common_steps)
 
 spells_body : (text line : List ℕ) (body : List (List ℕ)) (version : Option Version) (rules : List Rule) → length text ≤ 65536 → lines_of text ≡ line ∷ body → IsHeader line version
@@ -191,13 +191,13 @@ unless_at : (at : ℕ) (found : Option RuleKind) (after : Reading) (fault : Rule
 unless_at at None after fault h = cc
 unless_at at (Some kind) after fault h = let e : fault_at at kind ≡ fault = cc in sym (ap (λ (f : RuleFault). f.line) e)
 
-line_at : (version : Version) (reading : Reading) (at : ℕ) (line : List ℕ) (fault : RuleFault) → read_line version reading at line ≡ Err fault → fault.line ≡ at
+pub line_at : (version : Version) (reading : Reading) (at : ℕ) (line : List ℕ) (fault : RuleFault) → read_line version reading at line ≡ Err fault → fault.line ≡ at
 line_at version reading at line fault is =
     let l = lengths_stand version reading.phase in
     let words = words_of line in
     unless_at at (first_fault (faults_on reading l words (line_of version l words))) (after_line reading at (line_of version l words)) fault is
 
-end_at : (rules : List Rule) (phase : Phase) (at : ℕ) (fault : RuleFault) → at_end (reading_of rules phase) at ≡ Err fault → fault.line ≡ at
+pub end_at : (rules : List Rule) (phase : Phase) (at : ℕ) (fault : RuleFault) → at_end (reading_of rules phase) at ≡ Err fault → fault.line ≡ at
 end_at rules Outside at fault is = cc
 end_at rules (InLeft rule) at fault is = let e : fault_at at kinds.Shape ≡ fault = cc in sym (ap (λ (f : RuleFault). f.line) e)
 end_at rules (InRight rule) at fault is = let e : fault_at at kinds.Shape ≡ fault = cc in sym (ap (λ (f : RuleFault). f.line) e)

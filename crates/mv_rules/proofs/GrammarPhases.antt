@@ -21,7 +21,7 @@ use Rattle.mv_scan.specs.Found.{is_other, is_out_of_range}
 use Rattle.mv_rules.specs.Forms.{item_of, guard_of}
 use Rattle.mv_rules.specs.Names.{has_good_names, rest_is_last, parts_in, is_sized, is_all_bound, bytes_are_bound}
 use Rattle.mv_scan.specs.Names.{is_name}
-use Rattle.mv_rules.specs.RulesText.{begun, line_of, has_words, part_count, lengths_stand, is_full}
+use Rattle.mv_rules.specs.RulesText.{new_rule, line_of, has_words, part_count, lengths_stand, is_full}
 use Rattle.mv_rules.specs.ItemGrammar.{Side, Left, Right, SpellsItem, SpellsGuard}
 use Rattle.mv_rules.specs.Grammar.{SpellsLeftItem, SpellsLeftGuard, SpellsRightItem}
 use Rattle.mv_rules.proofs.DraftSteps.{below}
@@ -40,7 +40,7 @@ reading_of rules phase = record { rules = rules; phase = phase }
 pub record BeginsRule (rules : List Rule) (at : ℕ) (words : List Token) (next : Reading) : Type 0 where
   pub written : words ≡ Plain (codes "rule") ∷ []
   pub room : length rules < 64
-  pub after : reading_of rules (InLeft (begun at)) ≡ next
+  pub after : reading_of rules (InLeft (new_rule at)) ≡ next
 
 -- the line `to`
 pub record TurnsRule (rules : List Rule) (rule : Rule) (words : List Token) (next : Reading) : Type 0 where

@@ -12,7 +12,7 @@ use Rattle.mv_rules.specs.declared.reading.Reading.{Reading}
 use Rattle.mv_scan.specs.declared.token.Token.{Token}
 use Rattle.mv_rules.specs.Drafts.{IsDraft}
 use Rattle.mv_scan.specs.Words.{words_of}
-use Rattle.mv_rules.specs.RulesText.{and_then, at_end, begun, line_of, lengths_stand, read_line, read_lines, read_words, unread}
+use Rattle.mv_rules.specs.RulesText.{and_then, at_end, new_rule, line_of, lengths_stand, read_line, read_lines, read_words, unread}
 use Rattle.mv_rules.specs.Grammar.{Sentence, if_words, sentences, lone, SpellsLeft, SpellsLeftItem, SpellsLeftGuard, SpellsRight, SpellsRightItem, SpellsEach, SpellsBody}
 use Rattle.mv_rules.proofs.DraftSteps.{draft_read}
 use Rattle.mv_rules.proofs.GrammarSteps.{leaves_given}
@@ -50,7 +50,7 @@ out_by version rules s ss all (made ∷ more) each whole few =
     each.2 ∙ ap (λ (k : List Sentence). k ++ each.1) r.lines ∙ ap (λ (k : List Sentence). lone made.line (codes "rule") ∷ k) (joined r.left_lines r.right_lines each.1 to ends) in
     let h : Heads s (lone made.line (codes "rule")) ss (r.left_lines ++ (to ∷ (r.right_lines ++ (ends ∷ each.1)))) = heads s (lone made.line (codes "rule")) ss _ split in
     record {
-      next = reading_of rules (InLeft (begun s.at));
+      next = reading_of rules (InLeft (new_rule s.at));
       step = record { written = ap (λ (k : Sentence). k.words) h.head; room = room_for rules more all made whole few; after = refl };
       rest = record {
         left_lines = r.left_lines;

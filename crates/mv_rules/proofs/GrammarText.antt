@@ -13,7 +13,7 @@ use Rattle.mv_scan.specs.declared.token.Token.{Token}
 use Rattle.mv_rules.specs.Shape.{IsShaped}
 use Rattle.mv_rules.specs.Drafts.{IsDraft}
 use Rattle.mv_scan.specs.Words.{words_of}
-use Rattle.mv_rules.specs.RulesText.{and_then, at_end, begun, line_of, lengths_stand, read_line, read_lines, read_words}
+use Rattle.mv_rules.specs.RulesText.{and_then, at_end, new_rule, line_of, lengths_stand, read_line, read_lines, read_words}
 use Rattle.mv_rules.specs.Grammar.{Sentence, if_words, sentences, lone, SpellsLeft, SpellsRight, SpellsEach}
 use Rattle.mv_rules.proofs.DraftSteps.{draft_read}
 use Rattle.mv_rules.proofs.GrammarSteps.{leaves_is, leaves_given}
@@ -90,7 +90,7 @@ joined l r m t e = simp append_assoc
 begins_more : (version : Version) (rules : List Rule) (at : ℕ) (words : List Token) (next : Reading) (ss : List Sentence) (all : List Rule) → BeginsRule rules at words next
     → RestAfter version next ss all → OutRest version rules (sentence at words ∷ ss) all
 begins_more version rules at words next ss all s rest =
-    let r : LeftRest version rules (begun at) ss all = subst (λ (n : Reading). RestAfter version n ss all) (sym s.after) rest in
+    let r : LeftRest version rules (new_rule at) ss all = subst (λ (n : Reading). RestAfter version n ss all) (sym s.after) rest in
     let block = lone r.made.line (codes "rule") ∷ (r.left_lines ++ (lone r.to_at (codes "to") ∷ (r.right_lines ++ (lone r.end_at (codes "end") ∷ [])))) in
     let left : SpellsLeft version [] r.made.left r.made.guards r.left_lines =
     subst (λ (k : List Pattern). SpellsLeft version [] k r.made.guards r.left_lines) (sym r.left)

@@ -12,5 +12,6 @@ pub mod GrammarBack
 pub mod GrammarText
 pub mod GrammarReads
 pub mod GrammarLaws
+pub mod FaultLaws
 pub mod GuardLaws
 pub mod ShapeLaws

@@ -143,6 +143,17 @@ IsFirstFaultyLine text at =
     ((at ≡ 1) × ((version : Version) (body : List (List ℕ)) → HasHeader text version body → ⊥))
     ⊎ ((version : Version) × (body : List (List ℕ)) × HasHeader text version body × (StopsAt version body at ⊎ EndsEarly version body at))
 
+-- both texts have this line, and the same lines up to it; neither is too large
+pub record AgreeUpTo (at : ℕ) (text other : List ℕ) : Type 0 where
+  pub front : List (List ℕ)
+  pub behind : List (List ℕ)
+  pub others : List (List ℕ)
+  pub count : length front ≡ at
+  pub lines : lines_of text ≡ front ++ behind
+  pub other_lines : lines_of other ≡ front ++ others
+  pub size : length text ≤ 65536
+  pub other_size : length other ≤ 65536
+
 -- ## Guards
 
 -- each guard of the rule is on a byte name of its left side

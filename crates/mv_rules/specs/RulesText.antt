@@ -177,8 +177,8 @@ first_fault (test ∷ tests) = if test.0 then Some test.1 else first_fault tests
 -- ## What a line without a fault leaves
 
 -- a rule of which only the first line was read
-abbrev pub begun : ℕ → Rule
-begun at = record { line = at; left = []; guards = []; right = [] }
+abbrev pub new_rule : ℕ → Rule
+new_rule at = record { line = at; left = []; guards = []; right = [] }
 
 abbrev pub with_item : Phase → Found Pattern → Phase
 with_item (InLeft rule) (Is pattern) = InLeft (record rule { left = rule.left ++ pattern ∷ [] })
@@ -199,7 +199,7 @@ ended rules phase = record { rules = rules; phase = phase }
 
 abbrev pub after_line : Reading → ℕ → Line → Reading
 after_line reading at lines.Blank = reading
-after_line reading at (lines.Begins more) = record reading { phase = InLeft (begun at) }
+after_line reading at (lines.Begins more) = record reading { phase = InLeft (new_rule at) }
 after_line reading at (lines.Turns more) = record reading { phase = turned reading.phase }
 after_line reading at (lines.Ends more) = ended reading.rules reading.phase
 after_line reading at (lines.Item found) = record reading { phase = with_item reading.phase found }

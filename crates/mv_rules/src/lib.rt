@@ -17,7 +17,10 @@ mod text;
 mod verb;
 
 pub use fault::{RuleFault, RuleKind};
-pub use laws::spelled_rules_are_shaped;
+pub use laws::{
+    a_fault_is_of_the_lines_up_to_it, a_text_is_one_list_of_rules_or_faulty,
+    spelled_rules_are_shaped,
+};
 pub use lists::{Guards, Parts, Patterns, Rules};
 pub use rule::{Comparison, FdTerm, Guard, Part, Pattern, Rule, TimeTerm};
 pub use text::parse_rules;

@@ -38,6 +38,10 @@ Number 3: rule~read 4 -> @x:0~
 Number 3: rule~read 4 -> @x:65537~
 Quote 3: rule~read 4 -> \"ab~
 Quote 3: rule~write $f \"\\x4\" -> all~
+Quote 3: rule~write $f \"\\x\" -> all~
+Quote 3: rule~write $f \"\\x4g\" -> all~
+Quote 3: rule~write $f \"\\xg4\" -> all~
+Shape 4: rule~write $f \"\\x41\" -> all~
 Name 3: rule~read $ -> @x~
 Name 3: rule~read $aB -> @x~
 Name 3: rule~read $abcdefghijklmnopq -> @x~
@@ -53,16 +57,6 @@ Unbound 5: rule~close $x -> done~to~read 4 -> @x~
 Unbound 5: rule~clock 0 -> %t~to~close $t -> done~
 Unbound 5: rule~close $t -> done~to~clock 0 -> %t~
 Shape 5: ; ~~  ~end~
-Shape 2: to x~
-Shape 2: read $A @x~
-Empty 3: rule~to x~
-Word 3: rule~read 4294967296 -> errno x~
-Word 3: rule~read \"ab~
-Number 3: rule~read 99999999999 -> \"abc~
-Number 3: rule~read 4294967296 -> @X~
-Quote 3: rule~read $A -> \"abc~
-Name 3: rule~read $A -> @x:1 @x~
-Name 5: rule~yield -> done~to~read $G -> @y~
 Name 5: rule~yield -> done~to~read 4 -> @y:1~
 ";
 
@@ -90,11 +84,45 @@ Unbound 5: rule~read 4 -> @x~to~read 4 -> #y~
 Unbound 5: rule~read $x -> @y~to~read 4 -> #x~
 Guard 3: rule~when @x > 1~read 4 -> @x~
 Guard 4: rule~read $f -> @x~when @f > 1~
-Number 4: rule~read 4 -> @x~when @X > 65537~
-Name 4: rule~read 4 -> @x~when @Y > 1~
-Quote 5: rule~read 4 -> @x~to~read $g -> \"ab #x~
 Shape 2: to~when @x > 1~
 Word 3: rule~when @x~
+";
+
+/// Lines that have two kinds of fault, of which the earlier in the table counts. There is a row for each kind and the next that one
+/// line can have beside it; behind them stand pairs with others between. No line has Many and Empty, Twice and Unbound, or Unbound
+/// and Guard: they come on other lines.
+const PAIRS: &str = "\
+Shape 2: read 4 -> \"1\" \"2\" \"3\" \"4\" \"5\" \"6\" \"7\" \"8\" @a:1 @b:1 @c:1 @d:1 @e:1 @f:1 @g:1 @h:1 @i:1~
+Shape 2: to~
+Many 11: rule~yield -> done~yield -> done~yield -> done~yield -> done~yield -> done~yield -> done~yield -> done~yield -> done~yield~
+Many 3: rule~read 4 @a:1 @b:1 @c:1 @d:1 @e:1 @f:1 @g:1 @h:1 @i:1 @j:1 @k:1 @l:1 @m:1 @n:1 @o:1 @p:1 @q:1~
+Empty 3: rule~to x~
+Word 3: rule~read 4294967296 -> errno x~
+Number 3: rule~read 4294967296 -> \"ab~
+Quote 3: rule~read $A -> \"ab~
+Name 3: rule~read $A -> @x:1 @x~
+Name 5: rule~yield -> done~to~read $G -> @y~
+Shape 2: to x~
+Shape 2: read $A @x~
+Many 11: rule~yield -> done~yield -> done~yield -> done~yield -> done~yield -> done~yield -> done~yield -> done~yield -> done~read 4294967296 -> @x~
+Many 11: rule~yield -> done~yield -> done~yield -> done~yield -> done~yield -> done~yield -> done~yield -> done~yield -> done~read $A -> \"ab~
+Word 3: rule~read \"ab~
+Number 3: rule~read 4294967296 -> @X~
+Number 3: rule~read 4294967296 -> @x:1 @x~
+Number 5: rule~yield -> done~to~read 4294967296 -> @y~
+Quote 3: rule~read 4 -> @x:1 @x:1 \"ab~
+Quote 5: rule~yield -> done~to~read $g -> @y \"ab~
+";
+
+/// The same of guards and lengths.
+const SECOND_PAIRS: &str = "\
+Word 4: rule~read 4 -> @x~when x > 65537~
+Number 4: rule~read 4 -> @x~when @X > 65537~
+Name 4: rule~read 4 -> @x~when @Y > 1~
+Word 5: rule~read 4 -> @x~to~when @y > 1~
+Number 4: rule~read 4 -> @x~when @y > 65537~
+Quote 5: rule~read 4 -> @x~to~read $g -> \"ab #x~
+Name 5: rule~read 4 -> @x~to~read $g -> #Y~
 ";
 
 /// Whether a row's text has the row's fault; `header` stands before it, and `count` times `again` behind it.
@@ -155,6 +183,31 @@ fn guards_and_lengths_are_of_version_2(rt: HostRuntime) -> Result<(), Fail> {
     Ok(())
 }
 
+#[test]
+fn the_earlier_of_two_kinds_counts(rt: HostRuntime) -> Result<(), Fail> {
+    let alloc = rt.alloc();
+    for row in PAIRS.lines() {
+        assert!(rt;
+            comes(alloc, "mvrules 1\n", row, "", 0)?,
+            "version 1: {row}"
+        );
+        assert!(rt;
+            comes(alloc, "mvrules 2\n", row, "", 0)?,
+            "version 2: {row}"
+        );
+    }
+    Ok(())
+}
+
+#[test]
+fn the_earlier_kind_counts_at_guards(rt: HostRuntime) -> Result<(), Fail> {
+    let alloc = rt.alloc();
+    for row in SECOND_PAIRS.lines() {
+        assert!(rt; comes(alloc, "mvrules 2\n", row, "", 0)?, "{row}");
+    }
+    Ok(())
+}
+
 /// Whole texts, with how often the last lines of each stand.
 #[test]
 fn limits_are_kept(rt: HostRuntime) -> Result<(), Fail> {
@@ -163,6 +216,7 @@ fn limits_are_kept(rt: HostRuntime) -> Result<(), Fail> {
         ("Header 1: ", "", 0),
         ("Header 1: mvrules 3~", "", 0),
         ("Header 1: mvrules 1 ~", "", 0),
+        ("Header 1: to~", "", 0),
         ("Size 1: mvrules 2~", "~", 65_527),
         ("Size 1: x", "~", 65_536),
         ("Shape 65524: mvrules 2~rule", "~", 65_522),

@@ -7,7 +7,7 @@ ghost use Rattle.mv_rules.specs.Grammar.{IsFirstFaultyLine, Spells, has_bound_gu
 ghost use Rattle.mv_calls.specs.declared.fault.Or.TheVariants.{Fault};
 ghost use Rattle.mv_rules.specs.Shape.{IsShaped};
 ghost use Rattle.mv_rules.specs.Drafts.{IsDraft};
-ghost use Rattle.mv_rules.specs.RulesText.{after_line, at_end, begun, ended, read_line, read_lines, rules_in, turned, unless, unread, version_of, with_guard, with_item};
+ghost use Rattle.mv_rules.specs.RulesText.{after_line, at_end, new_rule, ended, read_line, read_lines, rules_in, turned, unless, unread, version_of, with_guard, with_item};
 ghost use Rattle.mv_scan.specs.Lines.{line_len, lines_of};
 
 use crate::fault::{RuleFault, RuleKind};
@@ -110,8 +110,8 @@ fn ended(rules: Rules, phase: Phase) -> Result<Reading, OutOfMemory>
 }
 
 /// A rule of which only the first line was read.
-fn begun(alloc: Global, at: u32) -> Rule
-    ensures { result ≡ begun at }
+fn new_rule(alloc: Global, at: u32) -> Rule
+    ensures { result ≡ new_rule at }
 {
     Rule {
         line: at,
@@ -131,7 +131,7 @@ fn after_line(alloc: Global, reading: Reading, at: u32, line: Line) -> Result<Re
         Line::Blank => Ok(Reading { rules, phase }),
         Line::Begins(_) => Ok(Reading {
             rules,
-            phase: Phase::InLeft(begun(alloc, at)),
+            phase: Phase::InLeft(new_rule(alloc, at)),
         }),
         Line::Turns(_) => Ok(Reading {
             rules,

@@ -28,8 +28,13 @@ a\"b c\"| a\"b c\"
 \"a\tb\" c| ? c
 \"\\x4\" -> all| ? -> all
 \"\\x\" c| ? c
-\"\\xg0\" c| ? c
+\"\\x4g\" c| ? c
+\"\\xg4\" c| ? c
+\"\\x41\" c| <A> c
+\"\\x\\\" c\" d| ? d
 \"\\x4\\\" c\" d| ? d
+\"\\x4\\\\\" c| ? c
+\"\\x4\"b c| ! c
 ";
 
 /// The words of a line, shown as in the table.

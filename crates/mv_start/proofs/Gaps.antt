@@ -1,5 +1,6 @@
 -- How far the gap rises in a run that stops at an import, and that a run with ample fuel doesn't stop for want of it.
 use Rattle.std.proofs.Common.{true, false, cond, Bool, ◌≡◌, ℕ, zero, suc, ◌+◌, ◌-◌, ◌<◌, ◌≤◌, List, [], ◌∷◌, length, Option, Some, None, refl, sym, ap, ◌∙◌, subst, arith}
+use Rattle.mv_syntax.specs.Types.{same_function_type}
 use Rattle.std.specs.Prelude.{nat_le, nat_lt, slice_get}
 use Rattle.std.proofs.lemmas.Bool.{leb-false}
 use Rattle.mv_calls.specs.declared.trap.Trap.TheVariants as trap
@@ -7,7 +8,7 @@ use Rattle.mv_syntax.specs.declared.ops.ValType.TheVariants.{I32}
 use Rattle.mv_syntax.specs.declared.types.FuncType.{FuncType}
 use Rattle.mv_syntax.specs.declared.instr.Instr.TheVariants as instr
 use Rattle.mv_syntax.specs.Tree.{Tree, plain}
-use Rattle.mv_execution.specs.Values.{is_of, same_function_type}
+use Rattle.mv_execution.specs.Values.{is_of}
 use Rattle.mv_execution.specs.Config.{Body, Function, Program, OpenBlock, Frame, Config, frame_limit, operand_limit, gap_limit}
 use Rattle.mv_execution.specs.Rows.{Out, Goes, Traps, Stuck, Next, advanced}
 use Rattle.mv_execution.specs.Step.{within_limit, went, begun, invoked, called, called_as, called_entry, called_indirect, row, counted, step_of, step}

@@ -13,7 +13,7 @@ use Rattle.mv_syntax.specs.declared.fault.StartFault.TheVariants.{NoEntry, Unkno
 use Rattle.mv_syntax.specs.Sections.{Parts}
 use Rattle.mv_validator.specs.Typing.{func_type}
 use Rattle.mv_memory.specs.Bytes.{written}
-use Rattle.mv_execution.specs.Values.{same_function_type}
+use Rattle.mv_syntax.specs.Types.{same_function_type}
 use Rattle.mv_execution.specs.Config.{Config, gap_limit}
 use Rattle.mv_execution.specs.Instance.{program_of, constant_of, type_at, new_config, with_element, with_memory}
 use Rattle.mv_execution.specs.Run.{Stop, Import as AtImport, Ended, Trapped, Fuel, IsStuck, run, entered, with_new_gap}
@@ -112,8 +112,8 @@ begun_by (c, AtImport x) = Err (StartTraps trap.NotNow)
 begun_by (c, Fuel) = Err (StartTraps trap.Spent)
 begun_by (c, IsStuck) = Err (StartTraps trap.Spent)
 
-abbrev pub begun : Parts → Config → Result Config StartFault
-begun p c = elim p.start [ None ↦ Ok c | Some x ↦ begun_by (run (program_of p) ample (entered (program_of p) x c)) ]
+abbrev pub start_ran : Parts → Config → Result Config StartFault
+start_ran p c = elim p.start [ None ↦ Ok c | Some x ↦ begun_by (run (program_of p) ample (entered (program_of p) x c)) ]
 
 -- ---- the whole
 
@@ -123,7 +123,7 @@ unless_faulty (Some fault) r = Err fault
 
 -- bounds, segments and the start function
 abbrev pub filled : Parts → Result Config StartFault
-filled p = unless_faulty (bounds_fault p) (begun p (with_segments p.segments (with_elements p.elements (new_config p))))
+filled p = unless_faulty (bounds_fault p) (start_ran p (with_segments p.segments (with_elements p.elements (new_config p))))
 
 -- an instance without a call, for an update
 abbrev pub instance : Parts → Result Config StartFault

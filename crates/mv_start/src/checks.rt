@@ -1,12 +1,11 @@
 //! What is checked of a module before it is instantiated: imports, the entry, and the bounds of its segments.
 ghost use Rattle.std.specs.Prelude.{◌≡◌, ◌+◌, ◌<◌, ◌≤◌, [], IsTrue, Some, None, IfSome, IfNone, length, nat_le, if◌then◌else◌};
-ghost use Rattle.mv_validator.specs.Counted.{AreCounted};
 ghost use Rattle.mv_validator.specs.Valid.{IsValid};
 ghost use Rattle.mv_validator.specs.Typing.{func_type};
 ghost use Rattle.mv_execution.specs.Fits.{module_context};
 ghost use Rattle.mv_machine.specs.Calls.{HasFunction};
 ghost use Rattle.mv_syntax.specs.declared.types.FuncType.{FuncType as Signature};
-ghost use Rattle.mv_execution.specs.Values.{same_function_type};
+ghost use Rattle.mv_syntax.specs.Types.{same_function_type};
 ghost use Rattle.mv_execution.specs.Instance.{constant_of, type_at};
 ghost use Rattle.mv_imports.specs.Functions.{is_typed as is_typed_as};
 ghost use Rattle.mv_start.specs.Instances.{import_fault, imports_fault, first_fault, export_named, entry_of, nothing_type, number_type, element_fault, data_fault};
@@ -14,14 +13,6 @@ ghost use Rattle.mv_start.specs.Instances.{import_fault, imports_fault, first_fa
 use mv_imports::{HostFunction, find_function, has_type};
 use mv_machine::Machine;
 use mv_syntax::{Export, FuncType, Import, Instr, Module, StartFault, ValType};
-
-/// The lists of a module are counted by numbers of 32 bits, since some bytes spell it.
-fn counted(module: &Module)
-    ensures { AreCounted «module».now }
-{
-    // To look at a part brings up what the type keeps.
-    let _start = module.start;
-}
 
 /// Whether the type with this index is the function's.
 fn is_typed(function: HostFunction, types: &[FuncType], index: u32) -> bool
@@ -51,7 +42,7 @@ pub fn fault_of_imports(module: &Module) -> Option<StartFault>
     requires valid { IsValid «module».now }
     ensures { result ≡ imports_fault «module».now }
 {
-    counted(module);
+    module.counted();
     for (item, import) in module.imports.slice().iter().enumerate() {
         let fault = fault_of_import(module.types.slice(), item as u32, import);
         if let Some(fault) = fault {
@@ -141,7 +132,7 @@ fn lies_within(offset: u64, len: usize, size: usize) -> bool
 pub fn fault_of_elements(module: &Module, size: usize) -> Option<StartFault>
     ensures { result ≡ first_fault (element_fault size) 0 «module».now.elements }
 {
-    counted(module);
+    module.counted();
     for (item, element) in module.elements.slice().iter().enumerate() {
         let offset = constant(element.offset.slice());
         if !lies_within(offset, element.funcs.slice().len(), size) {
@@ -157,7 +148,7 @@ pub fn fault_of_elements(module: &Module, size: usize) -> Option<StartFault>
 pub fn fault_of_segments(module: &Module, size: usize) -> Option<StartFault>
     ensures { result ≡ first_fault (data_fault size) 0 «module».now.segments }
 {
-    counted(module);
+    module.counted();
     for (item, segment) in module.segments.slice().iter().enumerate() {
         let offset = constant(segment.offset.slice());
         if !lies_within(offset, segment.bytes.slice().len(), size) {

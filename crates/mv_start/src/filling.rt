@@ -3,7 +3,7 @@ ghost use Rattle.std.specs.Prelude.{◌≡◌, ◌+◌, ◌^◌, [], Ok as done_
 ghost use Rattle.mv_calls.specs.Or.{IfFault};
 ghost use Rattle.mv_execution.specs.Instance.{with_element};
 ghost use Rattle.mv_machine.specs.Calls.{HasFunction};
-ghost use Rattle.mv_start.specs.Instances.{begun, with_segments, with_elements};
+ghost use Rattle.mv_start.specs.Instances.{start_ran, with_segments, with_elements};
 ghost use Rattle.mv_start.specs.Writings.{IsWritten, IsEntry, IsEntered, IsFilled, HasCount, HasEntry, AreSegmentsWithin, TakesElements};
 
 use crate::checks::constant;
@@ -25,8 +25,8 @@ fn start_of(machine: &Machine) -> Option<u32>
 /// Runs the start function, where there is one. The gap is 0 again behind it.
 pub fn begin(alloc: Global, machine: &mut Machine) -> Result<(), Or<StartFault>>
     requires idle { machine.old.config.frames ≡ [] }
-    ensures ok { OnOk result (begun machine.old.parts machine.old.config ≡ done_as machine.new.config) }
-    ensures fault { IfFault result (λ fault. begun machine.old.parts machine.old.config ≡ faulty_as fault) }
+    ensures ok { OnOk result (start_ran machine.old.parts machine.old.config ≡ done_as machine.new.config) }
+    ensures fault { IfFault result (λ fault. start_ran machine.old.parts machine.old.config ≡ faulty_as fault) }
     ensures parts { machine.new.parts ≡ machine.old.parts }
     ensures idle { OnOk result (machine.new.config.frames ≡ []) }
 {

@@ -5,7 +5,7 @@ ghost use Rattle.mv_statements.specs.Words.{index, val_type};
 
 use crate::words::Words;
 use mv_calls::OutOfMemory;
-use mv_syntax::{Indices, ValType, ValTypes};
+use mv_syntax::{Indices, Locals, ValType, ValTypes};
 use std::alloc::Global;
 
 /// So many types.
@@ -21,6 +21,21 @@ pub fn val_types(
         types.push(words.val_type())?;
     }
     Ok(ValTypes::from_vec(types))
+}
+
+/// So many locals, by their types.
+pub fn local_types(
+    alloc: Global,
+    count: usize,
+    words: &mut Words<'_>,
+) -> Result<Locals, OutOfMemory>
+    ensures { IfOk result (λ locals. (locals, words.new) ≡ (many val_type count).reads words.old) }
+{
+    let mut locals = Locals::new(alloc);
+    for _ in 0..count {
+        locals.push_run(1, words.val_type())?;
+    }
+    Ok(locals)
 }
 
 /// So many indices.

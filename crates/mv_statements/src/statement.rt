@@ -10,13 +10,13 @@ ghost use Rattle.mv_statements.specs.Form.{clean};
 use crate::fault::TextKind;
 use crate::head::{Head, head_named};
 use crate::instructions::immediates;
-use crate::lists::{indices, maybe_index, maybe_val_type, val_types};
+use crate::lists::{indices, local_types, maybe_index, maybe_val_type, val_types};
 use crate::words::Words;
 use mv_calls::OutOfMemory;
 use mv_scan::Token;
 use mv_syntax::{
-    Code, Element, Export, FuncType, Global as GlobalPart, Import, Instr, Limits, Segment, ValType,
-    ValTypes,
+    Code, Element, Export, FuncType, Global as GlobalPart, Import, Instr, Limits, Locals, Segment,
+    ValType,
 };
 use std::alloc::Global;
 
@@ -27,7 +27,7 @@ pub enum Statement {
     Signature(FuncType),
     Import(Import),
     /// A function of this type begins, with these locals.
-    Func { ftype: u32, locals: ValTypes },
+    Func { ftype: u32, locals: Locals },
     /// The function ends.
     EndFunc,
     Table(Limits),
@@ -102,8 +102,8 @@ fn func(alloc: Global, words: &mut Words<'_>) -> Result<Statement, OutOfMemory>
 {
     let ftype = words.index();
     let count = words.left();
-    let locals = val_types(alloc, count, words)?;
-    if locals.slice().len() > 10_000 {
+    let locals = local_types(alloc, count, words)?;
+    if locals.len() > 10_000 {
         words.refuse(TextKind::Count);
     }
     Ok(Statement::Func { ftype, locals })

@@ -62,10 +62,12 @@ Count nop nop
 Count call_indirect 0 0
 Count i32.load 0
 Count import \"m 0
+Count data 0 \"\\x4\" x
 Quote import \"m\\q\" \"n\" 0
 Quote import \"\\xff\" \"n\" x
 Quote export name func x
 Quote data x \"a\\q\"
+Quote data 0 \"\\x4\"
 Quote data 0 \"a\"b
 Quote start \"0
 Number start x

@@ -1,6 +1,5 @@
 -- Which code spells a list of instructions (WebAssembly Core 1.0, 5.4.1), and which an expression (5.4.6).
-use Rattle.std.specs.Prelude.{◌≡◌, Bool, true, false, List, [], ◌∷◌, ◌++◌, Option, IsTrue, ◌⊎◌}
-use Rattle.mv_syntax.specs.declared.ops.ValType.{ValType}
+use Rattle.std.specs.Prelude.{◌≡◌, Bool, true, false, List, [], ◌∷◌, ◌++◌, IsTrue, ◌⊎◌}
 use Rattle.mv_syntax.specs.declared.instr.Instr.{Instr}
 use Rattle.mv_syntax.specs.declared.instr.Instr.TheVariants.{Block, Loop, If, Else, End}
 use Rattle.mv_syntax.specs.Tree.{Tree, done, plain, block, loop, choice}

@@ -1,20 +1,16 @@
 -- What a module that has a spelling keeps: its code is closed, each instruction could be spelled, its names are UTF-8, and
 -- its numbers are under the limits of this host.
-use Rattle.std.specs.Prelude.{◌≡◌, ℕ, ◌*◌, ◌^◌, ◌<◌, ◌≤◌, Bool, true, false, List, length, Option, Some, None, IfSome, ◌⊎◌}
+use Rattle.std.specs.Prelude.{◌≡◌, ℕ, ◌*◌, ◌^◌, ◌<◌, ◌≤◌, Bool, true, false, List, length, IfSome, ◌⊎◌}
 use Rattle.std.specs.List.{AllByRecursion}
 use Rattle.std.specs.Str.{is_utf8}
 use Rattle.mv_syntax.specs.declared.ops.ValType.{ValType}
 use Rattle.mv_syntax.specs.declared.ops.ValType.TheVariants.{I32, I64}
 use Rattle.mv_syntax.specs.declared.types.FuncType.{FuncType}
-use Rattle.mv_syntax.specs.declared.types.Limits.{Limits}
 use Rattle.mv_syntax.specs.declared.instr.Instr.{Instr}
 use Rattle.mv_syntax.specs.declared.instr.Instr.TheVariants as instr
 use Rattle.mv_syntax.specs.declared.module.Import.{Import}
 use Rattle.mv_syntax.specs.declared.module.Func.{Func}
-use Rattle.mv_syntax.specs.declared.module.Global.{Global}
 use Rattle.mv_syntax.specs.declared.module.Export.{Export}
-use Rattle.mv_syntax.specs.declared.module.Element.{Element}
-use Rattle.mv_syntax.specs.declared.module.Segment.{Segment}
 use Rattle.mv_syntax.specs.Types.{bit_width}
 use Rattle.mv_syntax.specs.Tree.{IsClosedCode}
 use Rattle.mv_syntax.specs.Sections.{Parts}

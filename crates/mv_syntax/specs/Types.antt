@@ -1,6 +1,7 @@
 -- Types: how many bits a value has, the types of operands and results (WebAssembly Core 1.0, 2.3.1 and 2.4.1), and how
 -- types are spelled (5.3).
-use Rattle.std.specs.Prelude.{ℕ, ◌||◌, Bool, true, false, List, Result, Ok, Err, Some, None, nat_le, ◌==◌, if◌then◌else◌}
+use Rattle.std.specs.Prelude.{ℕ, ◌&&◌, ◌||◌, Bool, true, false, List, Result, Ok, Err, Option, Some, None, nat_le, ◌==◌, if◌then◌else◌}
+use Rattle.std.specs.Cmp.Lexicographic.{pointwise}
 use Rattle.mv_syntax.specs.declared.fault.ReadKind.{ReadKind}
 use Rattle.mv_syntax.specs.declared.fault.ReadKind.TheVariants.{Float, LaterFeature, Kind, Limit}
 use Rattle.mv_syntax.specs.declared.ops.ValType.{ValType}
@@ -48,6 +49,24 @@ result_type ExtendU = I64
 abbrev pub tested_type : TestOp → ValType
 tested_type Eqz32 = I32
 tested_type Eqz64 = I64
+
+-- whether two types are one (3.2.3 and 4.4.7 compare types so)
+abbrev pub same_type : ValType → ValType → Bool
+same_type I32 I32 = true
+same_type I64 I64 = true
+same_type a b = false
+
+abbrev pub same_types : List ValType → List ValType → Bool
+same_types = pointwise same_type
+
+abbrev pub same_result : Option ValType → Option ValType → Bool
+same_result None None = true
+same_result (Some a) (Some b) = same_type a b
+same_result a b = false
+
+-- the same parameters and the same result
+abbrev pub same_function_type : FuncType → FuncType → Bool
+same_function_type a b = same_types a.params b.params && same_result a.result b.result
 
 -- 5.1.3: a count and as many of a form
 unfoldable pub vector : {A : Type 0} → Form A → Form (List A)

@@ -1,10 +1,12 @@
 //! Modules.
 
 ghost use Rattle.mv_syntax.specs.Kept.{Keeps};
+ghost use Rattle.mv_syntax.specs.Counted.{AreCounted};
 
 use crate::lists::{
-    Code, Elements, Exports, FuncTypes, Funcs, Globals, Imports, Indices, Segments, ValTypes,
+    Code, Elements, Exports, FuncTypes, Funcs, Globals, Imports, Indices, Segments,
 };
+use crate::locals::Locals;
 use crate::ops::ValType;
 use crate::types::Limits;
 use mv_calls::Bytes;
@@ -22,7 +24,7 @@ pub struct Import {
 #[derive(Debug, Drop)]
 pub struct Func {
     pub ftype: u32,
-    pub locals: ValTypes,
+    pub locals: Locals,
     pub code: Code,
 }
 
@@ -88,6 +90,15 @@ impl Module {
     /// function does nothing; it carries the law.
     pub fn keeps(&self)
         ensures { Keeps self.now }
+    {
+        // To look at a part brings up what the type keeps.
+        let _start = self.start;
+    }
+
+    /// Every list of a module has fewer than 2^32 items, and so has the code of each body, since some bytes spell it. The
+    /// function does nothing; it carries the law.
+    pub fn counted(&self)
+        ensures { AreCounted self.now }
     {
         // To look at a part brings up what the type keeps.
         let _start = self.start;

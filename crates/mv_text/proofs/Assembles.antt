@@ -12,7 +12,7 @@ use Rattle.mv_syntax.specs.declared.instr.Instr.{Instr}
 use Rattle.mv_syntax.specs.declared.instr.Instr.TheVariants.{End}
 use Rattle.mv_syntax.specs.declared.module.Func.{Func as Function}
 use Rattle.mv_syntax.specs.Nesting.{nest}
-use Rattle.mv_syntax.specs.NestingLaws.{Onward, Closes, closes_body, body_closes}
+use Rattle.mv_syntax.proofs.NestingLaws.{Onward, Closes, closes_body, body_closes}
 use Rattle.mv_syntax.specs.Sections.{Parts, nothing_yet}
 use Rattle.mv_scan.specs.declared.token.Token.{Token}
 use Rattle.mv_scan.specs.Lines.{lines_of}
@@ -28,7 +28,7 @@ use Rattle.mv_statements.proofs.Spelled.{spells_reading, reading_spells}
 use Rattle.mv_text.specs.States.{Body}
 use Rattle.mv_text.specs.declared.state.State.{State}
 use Rattle.mv_text.specs.Comments.{words_on}
-use Rattle.mv_text.specs.Assembly.{added, with_function, is_misplaced_outside, is_misplaced_inside, is_misplaced, kind_before, stays_open, begun, ended, outside, within, with_instr, end_func, place_outside, place_inside, place, unless_faulty, judged, step, stepped, finished_in, assembled_from, nothing, assembled, fault_at}
+use Rattle.mv_text.specs.Assembly.{added, with_function, is_misplaced_outside, is_misplaced_inside, is_misplaced, kind_before, stays_open, new_body, ended, outside, within, with_instr, end_func, place_outside, place_inside, place, unless_faulty, judged, step, stepped, finished_in, assembled_from, nothing, assembled, fault_at}
 use Rattle.mv_text.specs.Grammar.{sentences, if_words, SpellsCode, SpellsFunction, Item, Directive, Defines, IsPart, SpellsDirective, SpellsItem, with_item, SpellsItems, Spells}
 
 -- ## Blocks
@@ -104,7 +104,7 @@ placed_at s (Known statement fault) next e =
 
 -- what a line outside functions does
 abbrev Begins : Parts → Statement → State → Type 0
-Begins p statement next = (t : ℕ) × (locals : List ValType) × (statement ≡ statements.Func t locals) × (next ≡ within p (begun t locals))
+Begins p statement next = (t : ℕ) × (locals : List ValType) × (statement ≡ statements.Func t locals) × (next ≡ within p (new_body t locals))
 
 abbrev Adds : Parts → Statement → State → Type 0
 Adds p statement next = IsPart statement × (next ≡ outside (added statement p))
@@ -180,9 +180,9 @@ one_more : (before after : Parts) (words : List Token) (lines : List (List Token
 one_more before after words lines statement s part fits rest =
     (Directive statement ∷ rest.0, (words ∷ [], lines, refl, record { words = words; whole = refl; spelled = s; part = part; placed = fits }, rest.1))
 
-function_more : (before after : Parts) (words : List Token) (lines : List (List Token)) (t : ℕ) (locals : List ValType) → SpellsStatement (statements.Func t locals) words → Rest (begun t locals) before after lines → Goal None before after (words ∷ lines)
+function_more : (before after : Parts) (words : List Token) (lines : List (List Token)) (t : ℕ) (locals : List ValType) → SpellsStatement (statements.Func t locals) words → Rest (new_body t locals) before after lines → Goal None before after (words ∷ lines)
 function_more before after words lines t locals s r =
-    let f : Function = completed (begun t locals) r.code in
+    let f : Function = completed (new_body t locals) r.code in
     let spelled : SpellsFunction f (words ∷ (r.inner ++ r.last ∷ [])) = record {
       first = words;
       inner = r.inner;
@@ -332,7 +332,7 @@ code_leads (i ∷ code) p f opens inner more after each e h =
 
 function_leads : (f : Function) (front rest : List (List Token)) (before after : Parts) → SpellsFunction f front → Leads (outside (with_function f before)) rest after → Leads (outside before) (front ++ rest) after
 function_leads f front rest before after s h =
-    let start : Body = begun f.ftype f.locals in
+    let start : Body = new_body f.ftype f.locals in
     let flat : nests [] s.code ≡ Some [] = nested s.code [] (subst (λ (c : List Instr). Closes [] c) s.code_is (body_closes f.code s.closed)) in
     let whole : Body = record start { code = s.code; opens = [] } in
     let f_is : ended whole ≡ f = ap (λ (c : List Instr). record { ftype = f.ftype; locals = f.locals; code = c }) (sym s.code_is) in

@@ -13,7 +13,7 @@ use Rattle.mv_text.specs.declared.comments.Quoting.{Quoting}
 use Rattle.mv_text.specs.declared.comments.Quoting.TheVariants.{Gap}
 use Rattle.mv_text.specs.Comments.{after_byte, is_outside, begins_comment, before_comment, content_of, words_on}
 use Rattle.mv_text.specs.Grammar.{sentences, if_words}
-use Rattle.mv_text.proofs.Small.{Small}
+use Rattle.mv_writer.proofs.Small.{Small}
 use Rattle.mv_text.proofs.Facts.{weight, cost, IsGood, AreGood}
 
 escaped_at : (a b c d e : Bool) (byte : ℕ) → cond a (Some 10) (cond b (Some 13) (cond c (Some 9) (cond d (Some 34) (cond e (Some 92) None)))) ≡ Some byte → byte < 256

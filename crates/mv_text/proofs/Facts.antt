@@ -1,8 +1,8 @@
 -- The numbers of a statement that words spell fit, and it is no larger than they are.
 use Rattle.std.proofs.Common.{◌≡◌, ℕ, zero, suc, ◌+◌, ◌-◌, ◌^◌, ◌≤◌, ◌<◌, Bool, true, false, cond, eqb, leb, List, [], ◌∷◌, ◌++◌, length, Option, Some, None, Result, Ok, Err, refl, sym, ap, subst, ◌∙◌, arith}
-use Rattle.std.specs.Prelude.{codes}
+use Rattle.std.specs.Prelude.{codes, IfSome}
 use Rattle.std.specs.List.{AllByRecursion}
-use Rattle.std.specs.Option.{ok_or, ForSome}
+use Rattle.std.specs.Option.{ok_or}
 use Rattle.std.specs.Str.{is_utf8}
 use Rattle.std.proofs.lemmas.Bool.{leb-true, eqb-false}
 use Rattle.mv_syntax.specs.declared.ops.ValType.{ValType}
@@ -27,9 +27,9 @@ use Rattle.mv_statements.specs.FormLaws.{OneWord}
 use Rattle.mv_statements.specs.Numerals.{numeral, at_most, negated, negative, constant}
 use Rattle.mv_statements.specs.Words.{number_in, number_up_to, number, index, constant_word, val_type, kind_in, kind, text_in, text, name_in, name}
 use Rattle.mv_statements.specs.Statements.{immediates, signature, import_, func, limits, constant_code, global, export, start, element, segment, instruction, behind, statement, IsHead, Spells}
-use Rattle.mv_text.proofs.Small.{Small}
-use Rattle.mv_text.proofs.Encoded.{AreU32, IsSound, label_count}
-use Rattle.mv_text.proofs.Items.{SoundName}
+use Rattle.mv_writer.specs.Writable.{AreU32, InstrInRange, LimitsInRange}
+use Rattle.mv_writer.proofs.Small.{Small}
+use Rattle.mv_text.proofs.Sizes.{label_count}
 
 -- ## What words cost
 
@@ -127,17 +127,21 @@ text_fits (Quoted None) t h e = absurd cc
 text_fits Glued t h e = absurd cc
 text_fits (Quoted (Some bytes)) t h e = (let same : bytes ≡ t = cc in subst (λ (x : List ℕ). (length x ≤ 1 + length bytes) × Small x) same (omega arith, h))
 
+pub record SoundName (t : List ℕ) : Type 0 where
+  pub utf8 : is_utf8 t ≡ true
+  pub small : Small t
+
 name_at : (bytes t : List ℕ) (b : Bool) → is_utf8 bytes ≡ b → cond b (Ok bytes) (Err Quote) ≡ Ok t → (bytes ≡ t) × (is_utf8 bytes ≡ true)
 name_at bytes t true is e = (cc, is)
 name_at bytes t false is e = absurd cc
 
-name_fits : (token : Token) (t : List ℕ) → IsGood token → weight token < 2 ^ 32 → name_in token ≡ Ok t → SoundName t × (length t ≤ weight token)
-name_fits (Plain bytes) t h lt e = absurd cc
-name_fits (Quoted None) t h lt e = absurd cc
-name_fits Glued t h lt e = absurd cc
-name_fits (Quoted (Some bytes)) t h lt e =
+name_fits : (token : Token) (t : List ℕ) → IsGood token → name_in token ≡ Ok t → SoundName t × (length t ≤ weight token)
+name_fits (Plain bytes) t h e = absurd cc
+name_fits (Quoted None) t h e = absurd cc
+name_fits Glued t h e = absurd cc
+name_fits (Quoted (Some bytes)) t h e =
     let n = name_at bytes t (is_utf8 bytes) refl e in
-    subst (λ (x : List ℕ). SoundName x × (length x ≤ 1 + length bytes)) n.0 (record { utf8 = n.1; few = omega arith; small = h }, omega arith)
+    subst (λ (x : List ℕ). SoundName x × (length x ≤ 1 + length bytes)) n.0 (record { utf8 = n.1; small = h }, omega arith)
 
 -- a word that stands alone costs its weight, and is good among good ones
 one_cost : {A : Type 0} (meaning : Token → Result A TextKind) (a : A) (words more : List Token) → (h : OneWord meaning a words more) → cost words ≡ weight h.word
@@ -162,11 +166,11 @@ kind_fits : (k : ℕ) (words more : List Token) → kind.spells k words more →
 unfolding kind
 kind_fits k words more h = kind_few h.word k h.meant
 
-names_fit : (t : List ℕ) (words more : List Token) (c : ℕ) → name.spells t words more → AreGood words → cost words ≤ c → c < 2 ^ 32 → SoundName t × (length t ≤ cost words)
+names_fit : (t : List ℕ) (words more : List Token) → name.spells t words more → AreGood words → SoundName t × (length t ≤ cost words)
 unfolding name
-names_fit t words more c h good le lt =
+names_fit t words more h good =
     let one = one_cost name_in t words more h in
-    let r = name_fits h.word t (one_good name_in t words more h good) (omega arith) h.meant in
+    let r = name_fits h.word t (one_good name_in t words more h good) h.meant in
     (r.0, omega (arith, r.1))
 
 texts_fit : (t : List ℕ) (words more : List Token) → text.spells t words more → AreGood words → (length t ≤ cost words) × Small t
@@ -202,14 +206,11 @@ many_types (suc k) xs words more h =
     let size : suc (length r.first) ≤ cost words = omega (arith, ap cost h.whole, cost-append h.front h.back, ap cost r.whole, cost-append r.front r.back, type_cost h.first h.front (h.back ++ more) h.front_spells, rest.1) in
     subst (λ (x : List ValType). (length x ≡ suc k) × (length x ≤ cost words)) (sym r.back_spells.1) (ap suc rest.0, size)
 
-maybe_at : (b : Bool) (o : Option ℕ) (words more : List Token) → (choose b (give None) (index >>= λ a. give (Some a))).spells o words more → ForSome o (λ n. n < 2 ^ 32)
-maybe_at true o words more h n e = absurd (let f : None ≡ Some n = sym h.1 ∙ e in cc)
-maybe_at false o words more h n e =
-    let f : Some h.first ≡ Some n = sym h.back_spells.1 ∙ e in
-    let same : h.first ≡ n = cc in
-    subst (λ (x : ℕ). x < 2 ^ 32) same (index_fits h.first h.front (h.back ++ more) h.front_spells)
+maybe_at : (b : Bool) (o : Option ℕ) (words more : List Token) → (choose b (give None) (index >>= λ a. give (Some a))).spells o words more → IfSome o (λ n. n < 2 ^ 32)
+maybe_at true o words more h = subst (λ (x : Option ℕ). IfSome x (λ n. n < 2 ^ 32)) (sym h.1) tt
+maybe_at false o words more h = subst (λ (x : Option ℕ). IfSome x (λ n. n < 2 ^ 32)) (sym h.back_spells.1) (index_fits h.first h.front (h.back ++ more) h.front_spells)
 
-maybe_fits : (o : Option ℕ) (words more : List Token) → (maybe index).spells o words more → ForSome o (λ n. n < 2 ^ 32)
+maybe_fits : (o : Option ℕ) (words more : List Token) → (maybe index).spells o words more → IfSome o (λ n. n < 2 ^ 32)
 unfolding maybe
 maybe_fits o words more h = maybe_at (eqb h.first 0) o h.back more h.back_spells
 
@@ -220,14 +221,14 @@ IsFit (statements.Signature t) c = (length t.params ≤ 1000) × (length t.param
 IsFit (statements.Import i) c = SoundName i.«module» × SoundName i.name × (i.ftype < 2 ^ 32) × (length i.«module» + length i.name ≤ c)
 IsFit (statements.Func t locals) c = (t < 2 ^ 32) × (length locals ≤ 10000) × (length locals ≤ c)
 IsFit statements.EndFunc c = Unit {0}
-IsFit (statements.Table l) c = (l.min ≤ 65536) × ForSome l.max (λ n. n < 2 ^ 32)
-IsFit (statements.Memory l) c = (l.min ≤ 1024) × ForSome l.max (λ n. n < 2 ^ 32)
+IsFit (statements.Table l) c = (l.min ≤ 65536) × LimitsInRange l
+IsFit (statements.Memory l) c = (l.min ≤ 1024) × LimitsInRange l
 IsFit (statements.Global g) c = (v : ℕ) × (g ≡ record { vtype = g.vtype; mutable = g.mutable; init = constant_code g.vtype v }) × (v < 2 ^ bit_width g.vtype)
 IsFit (statements.Export x) c = SoundName x.name × (x.kind ≤ 3) × (x.index < 2 ^ 32) × (length x.name ≤ c)
 IsFit (statements.Start f) c = f < 2 ^ 32
 IsFit (statements.Element e) c = (v : ℕ) × (e ≡ record { offset = constant_code I32 v; funcs = e.funcs }) × (v < 2 ^ 32) × AreU32 e.funcs × (length e.funcs ≤ c)
 IsFit (statements.Segment s) c = (v : ℕ) × (s ≡ record { offset = constant_code I32 v; bytes = s.bytes }) × (v < 2 ^ 32) × (length s.bytes ≤ c) × Small s.bytes
-IsFit (statements.Instr i) c = IsSound i × (label_count i ≤ c)
+IsFit (statements.Instr i) c = IsSpellable i × InstrInRange i × (label_count i ≤ c)
 
 -- ## Directives
 
@@ -240,16 +241,16 @@ signature_fits s words more c h le =
     let few : h.first ≤ 1000 = leb-true h.first 1000 d.2 in
     subst (λ (x : Statement). IsFit x c) (sym d.1) (omega (arith, t.0), omega (arith, t.1, ap cost h.whole, cost-append h.front h.back, ap cost a.whole, cost-append a.front a.back))
 
-import_fits : (s : Statement) (words more : List Token) (c : ℕ) → import_.spells s words more → AreGood words → cost words ≤ c → c < 2 ^ 32 → IsFit s c
+import_fits : (s : Statement) (words more : List Token) (c : ℕ) → import_.spells s words more → AreGood words → cost words ≤ c → IsFit s c
 unfolding import_
-import_fits s words more c h good le lt =
+import_fits s words more c h good le =
     let a = h.back_spells in
     let b = a.back_spells in
     let g = good_parts h.front h.back (subst AreGood h.whole good) in
     let k = good_parts a.front a.back (subst AreGood a.whole g.1) in
     let size : cost h.front + cost a.front ≤ c = omega (arith, ap cost h.whole, cost-append h.front h.back, ap cost a.whole, cost-append a.front a.back) in
-    let m = names_fit h.first h.front (h.back ++ more) c h.front_spells g.0 (omega arith) lt in
-    let n = names_fit a.first a.front (a.back ++ more) c a.front_spells k.0 (omega arith) lt in
+    let m = names_fit h.first h.front (h.back ++ more) h.front_spells g.0 in
+    let n = names_fit a.first a.front (a.back ++ more) a.front_spells k.0 in
     subst (λ (x : Statement). IsFit x c) (sym b.back_spells.1) (m.0, n.0, index_fits b.first b.front (b.back ++ more) b.front_spells, omega (arith, m.1, n.1))
 
 func_fits : (s : Statement) (words more : List Token) (c : ℕ) → func.spells s words more → cost words ≤ c → IsFit s c
@@ -263,7 +264,7 @@ func_fits s words more c h le =
     subst (λ (x : Statement). IsFit x c) (sym d.1)
     (index_fits h.first h.front (h.back ++ more) h.front_spells, few, omega (arith, t.1, ap cost h.whole, cost-append h.front h.back, ap cost a.whole, cost-append a.front a.back, ap cost q.whole, cost-append q.front q.back))
 
-limits_fit : (least : ℕ) (make : Limits → Statement) (s : Statement) (words more : List Token) (c : ℕ) → (limits least make).spells s words more → ((l : Limits) → l.min ≤ least → ForSome l.max (λ n. n < 2 ^ 32) → IsFit (make l) c) → IsFit s c
+limits_fit : (least : ℕ) (make : Limits → Statement) (s : Statement) (words more : List Token) (c : ℕ) → (limits least make).spells s words more → ((l : Limits) → l.min ≤ least → LimitsInRange l → IsFit (make l) c) → IsFit s c
 unfolding limits
 limits_fit least make s words more c h fits =
     let a = h.back_spells in
@@ -275,14 +276,14 @@ global_fits s words more c h =
     let b = h.back_spells.back_spells in
     subst (λ (x : Statement). IsFit x c) (sym b.back_spells.1) (b.first, refl, constant_fits h.first b.first b.front (b.back ++ more) b.front_spells)
 
-export_fits : (s : Statement) (words more : List Token) (c : ℕ) → export.spells s words more → AreGood words → cost words ≤ c → c < 2 ^ 32 → IsFit s c
+export_fits : (s : Statement) (words more : List Token) (c : ℕ) → export.spells s words more → AreGood words → cost words ≤ c → IsFit s c
 unfolding export
-export_fits s words more c h good le lt =
+export_fits s words more c h good le =
     let a = h.back_spells in
     let b = a.back_spells in
     let g = good_parts h.front h.back (subst AreGood h.whole good) in
     let size : cost h.front ≤ c = omega (arith, ap cost h.whole, cost-append h.front h.back) in
-    let n = names_fit h.first h.front (h.back ++ more) c h.front_spells g.0 size lt in
+    let n = names_fit h.first h.front (h.back ++ more) h.front_spells g.0 in
     subst (λ (x : Statement). IsFit x c) (sym b.back_spells.1) (n.0, kind_fits a.first a.front (a.back ++ more) a.front_spells, index_fits b.first b.front (b.back ++ more) b.front_spells, omega (arith, n.1, size))
 
 start_fits : (s : Statement) (words more : List Token) (c : ℕ) → start.spells s words more → IsFit s c
@@ -311,73 +312,73 @@ segment_fits s words more c h good le =
 -- ## Instructions
 
 abbrev Fits : Instr → ℕ → Type 0
-Fits i c = IsSound i × (label_count i ≤ c)
+Fits i c = IsSpellable i × InstrInRange i × (label_count i ≤ c)
 
-immediates_fit : (i j : Instr) (words more : List Token) (c : ℕ) → IsSpellable i → (immediates i).spells j words more → cost words ≤ c → c < 2 ^ 32 → Fits j c
+immediates_fit : (i j : Instr) (words more : List Token) (c : ℕ) → IsSpellable i → (immediates i).spells j words more → cost words ≤ c → Fits j c
 unfolding immediates
-immediates_fit (instr.Block t) j words more c good h le lt = subst (λ (x : Instr). Fits x c) (sym h.back_spells.1) (tt, omega arith)
-immediates_fit (instr.Loop t) j words more c good h le lt = subst (λ (x : Instr). Fits x c) (sym h.back_spells.1) (tt, omega arith)
-immediates_fit (instr.If t) j words more c good h le lt = subst (λ (x : Instr). Fits x c) (sym h.back_spells.1) (tt, omega arith)
-immediates_fit (instr.Br x) j words more c good h le lt = subst (λ (x : Instr). Fits x c) (sym h.back_spells.1) (index_fits h.first h.front (h.back ++ more) h.front_spells, omega arith)
-immediates_fit (instr.BrIf x) j words more c good h le lt = subst (λ (x : Instr). Fits x c) (sym h.back_spells.1) (index_fits h.first h.front (h.back ++ more) h.front_spells, omega arith)
-immediates_fit (instr.Call x) j words more c good h le lt = subst (λ (x : Instr). Fits x c) (sym h.back_spells.1) (index_fits h.first h.front (h.back ++ more) h.front_spells, omega arith)
-immediates_fit (instr.CallIndirect x) j words more c good h le lt = subst (λ (x : Instr). Fits x c) (sym h.back_spells.1) (index_fits h.first h.front (h.back ++ more) h.front_spells, omega arith)
-immediates_fit (instr.LocalGet x) j words more c good h le lt = subst (λ (x : Instr). Fits x c) (sym h.back_spells.1) (index_fits h.first h.front (h.back ++ more) h.front_spells, omega arith)
-immediates_fit (instr.LocalSet x) j words more c good h le lt = subst (λ (x : Instr). Fits x c) (sym h.back_spells.1) (index_fits h.first h.front (h.back ++ more) h.front_spells, omega arith)
-immediates_fit (instr.LocalTee x) j words more c good h le lt = subst (λ (x : Instr). Fits x c) (sym h.back_spells.1) (index_fits h.first h.front (h.back ++ more) h.front_spells, omega arith)
-immediates_fit (instr.GlobalGet x) j words more c good h le lt = subst (λ (x : Instr). Fits x c) (sym h.back_spells.1) (index_fits h.first h.front (h.back ++ more) h.front_spells, omega arith)
-immediates_fit (instr.GlobalSet x) j words more c good h le lt = subst (λ (x : Instr). Fits x c) (sym h.back_spells.1) (index_fits h.first h.front (h.back ++ more) h.front_spells, omega arith)
-immediates_fit (instr.BrTable ls l) j words more c good h le lt =
+immediates_fit (instr.Block t) j words more c good h le = subst (λ (x : Instr). Fits x c) (sym h.back_spells.1) (tt, tt, omega arith)
+immediates_fit (instr.Loop t) j words more c good h le = subst (λ (x : Instr). Fits x c) (sym h.back_spells.1) (tt, tt, omega arith)
+immediates_fit (instr.If t) j words more c good h le = subst (λ (x : Instr). Fits x c) (sym h.back_spells.1) (tt, tt, omega arith)
+immediates_fit (instr.Br x) j words more c good h le = subst (λ (x : Instr). Fits x c) (sym h.back_spells.1) (tt, index_fits h.first h.front (h.back ++ more) h.front_spells, omega arith)
+immediates_fit (instr.BrIf x) j words more c good h le = subst (λ (x : Instr). Fits x c) (sym h.back_spells.1) (tt, index_fits h.first h.front (h.back ++ more) h.front_spells, omega arith)
+immediates_fit (instr.Call x) j words more c good h le = subst (λ (x : Instr). Fits x c) (sym h.back_spells.1) (tt, index_fits h.first h.front (h.back ++ more) h.front_spells, omega arith)
+immediates_fit (instr.CallIndirect x) j words more c good h le = subst (λ (x : Instr). Fits x c) (sym h.back_spells.1) (tt, index_fits h.first h.front (h.back ++ more) h.front_spells, omega arith)
+immediates_fit (instr.LocalGet x) j words more c good h le = subst (λ (x : Instr). Fits x c) (sym h.back_spells.1) (tt, index_fits h.first h.front (h.back ++ more) h.front_spells, omega arith)
+immediates_fit (instr.LocalSet x) j words more c good h le = subst (λ (x : Instr). Fits x c) (sym h.back_spells.1) (tt, index_fits h.first h.front (h.back ++ more) h.front_spells, omega arith)
+immediates_fit (instr.LocalTee x) j words more c good h le = subst (λ (x : Instr). Fits x c) (sym h.back_spells.1) (tt, index_fits h.first h.front (h.back ++ more) h.front_spells, omega arith)
+immediates_fit (instr.GlobalGet x) j words more c good h le = subst (λ (x : Instr). Fits x c) (sym h.back_spells.1) (tt, index_fits h.first h.front (h.back ++ more) h.front_spells, omega arith)
+immediates_fit (instr.GlobalSet x) j words more c good h le = subst (λ (x : Instr). Fits x c) (sym h.back_spells.1) (tt, index_fits h.first h.front (h.back ++ more) h.front_spells, omega arith)
+immediates_fit (instr.BrTable ls l) j words more c good h le =
     let a = h.back_spells in
     let b = a.back_spells in
     let t = many_indices (h.first - 1) a.first a.front (a.back ++ more) a.front_spells in
     let size : length a.first ≤ c = omega (arith, t.1, ap cost h.whole, cost-append h.front h.back, ap cost a.whole, cost-append a.front a.back) in
-    subst (λ (x : Instr). Fits x c) (sym b.back_spells.1) ((t.0, omega arith, index_fits b.first b.front (b.back ++ more) b.front_spells), size)
-immediates_fit (instr.Load t n signed align offset) j words more c good h le lt =
+    subst (λ (x : Instr). Fits x c) (sym b.back_spells.1) (tt, (t.0, index_fits b.first b.front (b.back ++ more) b.front_spells), size)
+immediates_fit (instr.Load t n signed align offset) j words more c good h le =
     let a = h.back_spells in
-    subst (λ (x : Instr). Fits x c) (sym a.back_spells.1) ((good, index_fits h.first h.front (h.back ++ more) h.front_spells, index_fits a.first a.front (a.back ++ more) a.front_spells), omega arith)
-immediates_fit (instr.Store t n align offset) j words more c good h le lt =
+    subst (λ (x : Instr). Fits x c) (sym a.back_spells.1) (good, (index_fits h.first h.front (h.back ++ more) h.front_spells, index_fits a.first a.front (a.back ++ more) a.front_spells), omega arith)
+immediates_fit (instr.Store t n align offset) j words more c good h le =
     let a = h.back_spells in
-    subst (λ (x : Instr). Fits x c) (sym a.back_spells.1) ((good, index_fits h.first h.front (h.back ++ more) h.front_spells, index_fits a.first a.front (a.back ++ more) a.front_spells), omega arith)
-immediates_fit (instr.Const t v) j words more c good h le lt = subst (λ (x : Instr). Fits x c) (sym h.back_spells.1) (constant_fits t h.first h.front (h.back ++ more) h.front_spells, omega arith)
-immediates_fit instr.Unreachable j words more c good h le lt = subst (λ (x : Instr). Fits x c) (sym h.1) (tt, omega arith)
-immediates_fit instr.Nop j words more c good h le lt = subst (λ (x : Instr). Fits x c) (sym h.1) (tt, omega arith)
-immediates_fit instr.Else j words more c good h le lt = subst (λ (x : Instr). Fits x c) (sym h.1) (tt, omega arith)
-immediates_fit instr.End j words more c good h le lt = subst (λ (x : Instr). Fits x c) (sym h.1) (tt, omega arith)
-immediates_fit instr.Return j words more c good h le lt = subst (λ (x : Instr). Fits x c) (sym h.1) (tt, omega arith)
-immediates_fit instr.Drop j words more c good h le lt = subst (λ (x : Instr). Fits x c) (sym h.1) (tt, omega arith)
-immediates_fit instr.Select j words more c good h le lt = subst (λ (x : Instr). Fits x c) (sym h.1) (tt, omega arith)
-immediates_fit instr.MemorySize j words more c good h le lt = subst (λ (x : Instr). Fits x c) (sym h.1) (tt, omega arith)
-immediates_fit instr.MemoryGrow j words more c good h le lt = subst (λ (x : Instr). Fits x c) (sym h.1) (tt, omega arith)
-immediates_fit (instr.Un op) j words more c good h le lt = subst (λ (x : Instr). Fits x c) (sym h.1) (tt, omega arith)
-immediates_fit (instr.Test op) j words more c good h le lt = subst (λ (x : Instr). Fits x c) (sym h.1) (tt, omega arith)
-immediates_fit (instr.Rel r) j words more c good h le lt = subst (λ (x : Instr). Fits x c) (sym h.1) (tt, omega arith)
-immediates_fit (instr.Bin r) j words more c good h le lt = subst (λ (x : Instr). Fits x c) (sym h.1) (tt, omega arith)
+    subst (λ (x : Instr). Fits x c) (sym a.back_spells.1) (good, (index_fits h.first h.front (h.back ++ more) h.front_spells, index_fits a.first a.front (a.back ++ more) a.front_spells), omega arith)
+immediates_fit (instr.Const t v) j words more c good h le = subst (λ (x : Instr). Fits x c) (sym h.back_spells.1) (constant_fits t h.first h.front (h.back ++ more) h.front_spells, tt, omega arith)
+immediates_fit instr.Unreachable j words more c good h le = subst (λ (x : Instr). Fits x c) (sym h.1) (tt, tt, omega arith)
+immediates_fit instr.Nop j words more c good h le = subst (λ (x : Instr). Fits x c) (sym h.1) (tt, tt, omega arith)
+immediates_fit instr.Else j words more c good h le = subst (λ (x : Instr). Fits x c) (sym h.1) (tt, tt, omega arith)
+immediates_fit instr.End j words more c good h le = subst (λ (x : Instr). Fits x c) (sym h.1) (tt, tt, omega arith)
+immediates_fit instr.Return j words more c good h le = subst (λ (x : Instr). Fits x c) (sym h.1) (tt, tt, omega arith)
+immediates_fit instr.Drop j words more c good h le = subst (λ (x : Instr). Fits x c) (sym h.1) (tt, tt, omega arith)
+immediates_fit instr.Select j words more c good h le = subst (λ (x : Instr). Fits x c) (sym h.1) (tt, tt, omega arith)
+immediates_fit instr.MemorySize j words more c good h le = subst (λ (x : Instr). Fits x c) (sym h.1) (tt, tt, omega arith)
+immediates_fit instr.MemoryGrow j words more c good h le = subst (λ (x : Instr). Fits x c) (sym h.1) (tt, tt, omega arith)
+immediates_fit (instr.Un op) j words more c good h le = subst (λ (x : Instr). Fits x c) (sym h.1) (tt, tt, omega arith)
+immediates_fit (instr.Test op) j words more c good h le = subst (λ (x : Instr). Fits x c) (sym h.1) (tt, tt, omega arith)
+immediates_fit (instr.Rel r) j words more c good h le = subst (λ (x : Instr). Fits x c) (sym h.1) (tt, tt, omega arith)
+immediates_fit (instr.Bin r) j words more c good h le = subst (λ (x : Instr). Fits x c) (sym h.1) (tt, tt, omega arith)
 
 -- ## Lines
 
-behind_fits : (head : Head) (s : Statement) (words more : List Token) (c : ℕ) → IsHead head → (behind head).spells s words more → AreGood words → cost words ≤ c → c < 2 ^ 32 → IsFit s c
+behind_fits : (head : Head) (s : Statement) (words more : List Token) (c : ℕ) → IsHead head → (behind head).spells s words more → AreGood words → cost words ≤ c → IsFit s c
 unfolding behind instruction
-behind_fits heads.Signature s words more c head h good le lt = signature_fits s words more c h le
-behind_fits heads.Import s words more c head h good le lt = import_fits s words more c h good le lt
-behind_fits heads.Func s words more c head h good le lt = func_fits s words more c h le
-behind_fits heads.EndFunc s words more c head h good le lt = subst (λ (x : Statement). IsFit x c) (sym h.1) tt
-behind_fits heads.Table s words more c head h good le lt = limits_fit 65536 statements.Table s words more c h (λ l a b. (a, b))
-behind_fits heads.Memory s words more c head h good le lt = limits_fit 1024 statements.Memory s words more c h (λ l a b. (a, b))
-behind_fits heads.Global s words more c head h good le lt = global_fits s words more c h
-behind_fits heads.Export s words more c head h good le lt = export_fits s words more c h good le lt
-behind_fits heads.Start s words more c head h good le lt = start_fits s words more c h
-behind_fits heads.Element s words more c head h good le lt = element_fits s words more c h le
-behind_fits heads.Segment s words more c head h good le lt = segment_fits s words more c h good le
-behind_fits (heads.Instr i) s words more c head h good le lt =
+behind_fits heads.Signature s words more c head h good le = signature_fits s words more c h le
+behind_fits heads.Import s words more c head h good le = import_fits s words more c h good le
+behind_fits heads.Func s words more c head h good le = func_fits s words more c h le
+behind_fits heads.EndFunc s words more c head h good le = subst (λ (x : Statement). IsFit x c) (sym h.1) tt
+behind_fits heads.Table s words more c head h good le = limits_fit 65536 statements.Table s words more c h (λ l a b. (a, b))
+behind_fits heads.Memory s words more c head h good le = limits_fit 1024 statements.Memory s words more c h (λ l a b. (a, b))
+behind_fits heads.Global s words more c head h good le = global_fits s words more c h
+behind_fits heads.Export s words more c head h good le = export_fits s words more c h good le
+behind_fits heads.Start s words more c head h good le = start_fits s words more c h
+behind_fits heads.Element s words more c head h good le = element_fits s words more c h le
+behind_fits heads.Segment s words more c head h good le = segment_fits s words more c h good le
+behind_fits (heads.Instr i) s words more c head h good le =
     subst (λ (x : Statement). IsFit x c) (sym h.back_spells.1)
-    (immediates_fit i h.first h.front (h.back ++ more) c head h.front_spells (omega (arith, ap cost h.whole, cost-append h.front h.back)) lt)
+    (immediates_fit i h.first h.front (h.back ++ more) c head h.front_spells (omega (arith, ap cost h.whole, cost-append h.front h.back)))
 
-pub spelled_fits : (s : Statement) (words : List Token) → Spells s words → AreGood words → cost words < 2 ^ 32 → IsFit s (cost words)
+pub spelled_fits : (s : Statement) (words : List Token) → Spells s words → AreGood words → IsFit s (cost words)
 unfolding statement last
-spelled_fits s words h good lt =
+spelled_fits s words h good =
     let f = h.form in
     let rest : AreGood h.rest = (subst AreGood h.written good).1 in
     let front = good_parts f.front f.back (subst AreGood f.whole rest) in
     let size : cost f.front ≤ cost words = omega (arith, ap cost h.written, ap cost f.whole, cost-append f.front f.back) in
-    subst (λ (x : Statement). IsFit x (cost words)) (sym f.back_spells.back_spells.1) (behind_fits h.head f.first f.front (f.back ++ []) (cost words) h.good f.front_spells front.0 size lt)
+    subst (λ (x : Statement). IsFit x (cost words)) (sym f.back_spells.back_spells.1) (behind_fits h.head f.first f.front (f.back ++ []) (cost words) h.good f.front_spells front.0 size)

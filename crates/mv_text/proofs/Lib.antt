@@ -1,9 +1,7 @@
 pub mod Contents
 pub mod Assembles
 pub mod FirstFault
-pub mod Small
-pub mod Encoded
-pub mod Items
+pub mod Sizes
 pub mod Facts
 pub mod Costs
 pub mod Budget

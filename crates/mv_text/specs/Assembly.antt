@@ -75,8 +75,8 @@ stays_open (Ok (Some opens)) = Some opens
 stays_open (Ok None) = None
 stays_open (Err reason) = None
 
-abbrev pub begun : ℕ → List ValType → Body
-begun t locals = record { ftype = t; locals = locals; code = []; opens = [] }
+abbrev pub new_body : ℕ → List ValType → Body
+new_body t locals = record { ftype = t; locals = locals; code = []; opens = [] }
 
 -- the function with its last `end`
 abbrev pub ended : Body → Function
@@ -97,7 +97,7 @@ end_func p f [] = Ok (outside (with_function (ended f) p))
 end_func p f (open_ ∷ opens) = Err kinds.Nest
 
 abbrev pub place_outside : Parts → Statement → Result State TextKind
-place_outside p (statements.Func t locals) = Ok (within p (begun t locals))
+place_outside p (statements.Func t locals) = Ok (within p (new_body t locals))
 place_outside p statement = Ok (outside (added statement p))
 
 abbrev pub place_inside : Parts → Body → Statement → Result State TextKind

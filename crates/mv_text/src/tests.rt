@@ -26,6 +26,7 @@ Count 1: memory~memory 1
 Count 2: ;; none~memory 1 2 3
 Quote 1: data 0 \"a;; b
 Quote 1: import \"\\xff\" \"n\" 0
+Quote 1: data 0 \"\\x4\" ;; a b
 Number 1: memory 1025
 Number 3: func 0~nop~br_if -1~endfunc
 Nest 2: func 0~else~endfunc
@@ -107,7 +108,7 @@ fn every_directive_is_read(rt: HostRuntime) -> Result<(), Fail> {
     assert_eq!(rt; module.imports.slice().len(), 1);
     assert_eq!(rt; module.imports.slice()[0].name.slice(), b"a;;b".as_slice());
     assert_eq!(rt; module.funcs.slice().len(), 1);
-    assert_eq!(rt; module.funcs.slice()[0].locals.slice().len(), 2);
+    assert_eq!(rt; module.funcs.slice()[0].locals.len(), 2);
     assert_eq!(rt; module.funcs.slice()[0].code.slice().len(), 11);
     assert_eq!(rt; module.globals.slice().len(), 1);
     assert_eq!(rt; module.exports.slice().len(), 1);

@@ -3,11 +3,11 @@ ghost use Rattle.std.specs.Prelude.{◌≡◌, ◌++◌, ◌∷◌, [], IfOk, No
 ghost use Rattle.mv_calls.specs.Or.{IfFault};
 ghost use Rattle.mv_statements.specs.declared.fault.TextKind.TheVariants.{Nest};
 ghost use Rattle.mv_syntax.specs.Nesting.{nest};
-ghost use Rattle.mv_text.specs.Assembly.{begun, ended, stays_open};
+ghost use Rattle.mv_text.specs.Assembly.{new_body, ended, stays_open};
 
 use mv_calls::{Or, OutOfMemory};
 use mv_statements::TextKind;
-use mv_syntax::{Code, Func, Instr, ValTypes};
+use mv_syntax::{Code, Func, Instr, Locals};
 use std::alloc::{AllocError, Global};
 use std::marker::Model;
 
@@ -15,7 +15,7 @@ use std::marker::Model;
 #[derive(Drop)]
 pub struct Unended {
     ftype: u32,
-    locals: ValTypes,
+    locals: Locals,
     code: Vec<Instr>,
     /// The blocks that are open, the innermost last: whether an `else` may come.
     opens: Vec<bool>,
@@ -49,8 +49,8 @@ fn nest(opens: &mut Vec<bool>, instr: &Instr) -> Result<bool, AllocError>
 
 impl Unended {
     /// A function without instructions yet.
-    pub fn new(alloc: Global, ftype: u32, locals: ValTypes) -> Unended
-        ensures { result ≡ begun ftype locals }
+    pub fn new(alloc: Global, ftype: u32, locals: Locals) -> Unended
+        ensures { result ≡ new_body ftype locals }
     {
         Unended {
             ftype,

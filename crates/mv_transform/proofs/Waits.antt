@@ -1,5 +1,6 @@
 -- A call that waits for its answer is an import's.
 use Rattle.std.proofs.Common.{true, false, cond, Bool, ◌≡◌, ℕ, zero, suc, ◌+◌, ◌<◌, List, [], ◌∷◌, ◌++◌, length, Option, Some, None, refl, sym, ap, ◌∙◌, subst, arith, length-append}
+use Rattle.mv_syntax.specs.Types.{same_function_type}
 use Rattle.std.proofs.lemmas.List.{length-map}
 use Rattle.std.specs.Prelude.{nat_le, nat_lt, slice_get, map}
 use Rattle.mv_calls.specs.declared.trap.Trap.TheVariants as trap
@@ -10,7 +11,7 @@ use Rattle.mv_syntax.specs.declared.module.Import.{Import}
 use Rattle.mv_syntax.specs.declared.module.Func.{Func}
 use Rattle.mv_syntax.specs.Sections.{Parts}
 use Rattle.mv_syntax.specs.Tree.{Tree, plain}
-use Rattle.mv_execution.specs.Values.{is_of, same_function_type}
+use Rattle.mv_execution.specs.Values.{is_of}
 use Rattle.mv_execution.specs.Config.{Body, Function, Program, OpenBlock, Frame, Config, frame_limit, operand_limit, gap_limit}
 use Rattle.mv_execution.specs.Rows.{Out, Goes, Traps, Stuck, Next, advanced}
 use Rattle.mv_execution.specs.Step.{within_limit, went, begun, invoked, called, called_as, called_entry, called_indirect, row, counted, step_of, step}

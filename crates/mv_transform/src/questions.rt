@@ -43,7 +43,6 @@ fn word(machine: &Machine, function: HostFunction, n: u32) -> u32
     requires word { slice_get (params_of function) n ≡ Some i32_type }
     ensures { result ≡ argument_at machine.now.parts machine.now.config n }
 {
-    machine.keeps();
     let value = machine.arg(n);
     value as u32
 }

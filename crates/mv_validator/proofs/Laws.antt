@@ -23,7 +23,7 @@ use Rattle.mv_syntax.specs.declared.instr.Instr.TheVariants as instr
 use Rattle.mv_syntax.specs.Sections.{Parts}
 use Rattle.mv_validator.specs.Typing.{Context, IsTyped}
 use Rattle.mv_validator.specs.Faults.{lacking, unless, first_of, any_lacking, IsFirstFault}
-use Rattle.mv_validator.specs.Levels.{Level, levels_after}
+use Rattle.mv_validator.specs.ControlFrames.{ControlFrame, frames_after}
 use Rattle.mv_validator.specs.Valid.{type_indices, type_at, context_in, Each, AreLimits, IsConstant, exported_count, IsNewName, IsStart, IsElement, IsSegment, IsValid}
 use Rattle.mv_validator.specs.Checks.{Check, TypeOfImport, TypeOfFunc, TableLimits, MemoryLimits, GlobalInit, ExportedAs, StartOf, ElementsOf, BodyOf, DataOf, is_constant, bounded, within, kind_of_export, has_name, starts, fault_of, Passes, Fails, Numbered, at_most_one, import_checks, function_checks, size_checks, global_checks, export_checks, start_checks, element_checks, body_checks, data_checks, declaration_checks, checks, AllPass, FirstFails}
 use Rattle.mv_validator.proofs.Stacks.{same-is, same-refl}
@@ -247,9 +247,9 @@ valid-passes p v =
 -- ---- a faulty module isn't valid
 
 first-untyped : (c : Context) (code : List Instr) (at : ℕ) (k : ValidKind) → IsFirstFault c code at k → IsTyped c code → ⊥
-first-untyped c code at k f t = by (levels_after c (take (at + 1) code) (start_of c)) refl
+first-untyped c code at k f t = by (frames_after c (take (at + 1) code) (start_of c)) refl
   where
-    by : (o : Option (List Level)) → levels_after c (take (at + 1) code) (start_of c) ≡ o → ⊥
+    by : (o : Option (List ControlFrame)) → frames_after c (take (at + 1) code) (start_of c) ≡ o → ⊥
     by None e = fault-untyped c code (at + 1) e t
     by (Some m) e = f.faulty (front-typed c code (at + 1) m e)
 

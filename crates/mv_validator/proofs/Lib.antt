@@ -5,7 +5,6 @@ pub mod Claims
 pub mod Closing
 pub mod Flat
 pub mod Labels
-pub mod Counts
 pub mod Scans
 pub mod Laws
 pub mod Names

@@ -1,5 +1,6 @@
 -- One instruction that begins and ends no list: the operands behind it are exactly those that its type leads to.
 use Rattle.std.proofs.Common.{true, false, cond, Bool, ◌≡◌, ℕ, List, [], ◌∷◌, ◌++◌, Option, Some, None, refl, sym, ap, ◌∙◌, subst, append_assoc}
+use Rattle.mv_syntax.specs.Types.{same_result}
 use Rattle.std.specs.Prelude.{map, ◌&&◌, slice_get, option_and_then}
 use Rattle.std.specs.Option.{option_map}
 use Rattle.mv_syntax.specs.declared.ops.ValType.{ValType}
@@ -8,56 +9,56 @@ use Rattle.mv_syntax.specs.declared.instr.Instr.{Instr}
 use Rattle.mv_syntax.specs.declared.instr.Instr.TheVariants.{Unreachable, Br, BrTable, Return, Drop, Select}
 use Rattle.mv_validator.specs.Types.{operands_of}
 use Rattle.mv_validator.specs.Typing.{Context, type_of, HasType, Take}
-use Rattle.mv_validator.specs.Slots.{all_taken, any_taken, selected}
-use Rattle.mv_validator.specs.Levels.{Level, same_result, all_take, needs, behind, behind_end, behind_type}
+use Rattle.mv_validator.specs.OperandStack.{all_taken, any_taken, selected}
+use Rattle.mv_validator.specs.ControlFrames.{ControlFrame, all_take, needs, behind, behind_end, behind_type}
 use Rattle.mv_validator.proofs.Stacks.{Stands, map-some, bind-some, cond-some, all-from, all-to, any-from, any-to, selected-from, selected-to, pushed-from, pushed-to, stands-some, same-refl, same-is}
 
--- an instruction leads from operands of a level to these
-pub record Leads (c : Context) (i : Instr) (l : Level) (m' : List ValType) : Type 0 where
+-- an instruction leads from operands of a frame to these
+pub record Leads (c : Context) (i : Instr) (l : ControlFrame) (m' : List ValType) : Type 0 where
   pub x : List ValType
   pub y : List ValType
   pub below : List ValType
   pub typed : HasType c i x y
-  pub from : Stands l.operands l.dead (x ++ below)
+  pub from : Stands l.operands l.unreachable (x ++ below)
   pub to : m' ≡ y ++ below
 
--- the level behind, and what it keeps
-pub record Behind (c : Context) (i : Instr) (l : Level) (m' : List ValType) : Type 0 where
-  pub level : Level
-  pub is : behind c i l ≡ Some level
-  pub stands : Stands level.operands level.dead m'
+-- the frame behind, and what it keeps
+pub record Behind (c : Context) (i : Instr) (l : ControlFrame) (m' : List ValType) : Type 0 where
+  pub frame : ControlFrame
+  pub is : behind c i l ≡ Some frame
+  pub stands : Stands frame.operands frame.unreachable m'
 
--- A level behind an instruction has the same block.
-pub record SameBlock (l m : Level) : Type 0 where
+-- A frame behind an instruction has the same block.
+pub record SameBlock (l m : ControlFrame) : Type 0 where
   pub kind : m.kind ≡ l.kind
   pub result : m.result ≡ l.result
 
 -- instructions of a known type
-type-from : (o : Option (List ValType × List ValType)) (l l' : Level) (m' : List ValType) → behind_type l o ≡ Some l' → Stands l'.operands l'.dead m' → (t : List ValType × List ValType) × (o ≡ Some t) × (below : List ValType) × (Stands l.operands l.dead (t.0 ++ below)) × (m' ≡ t.1 ++ below)
+type-from : (o : Option (List ValType × List ValType)) (l l' : ControlFrame) (m' : List ValType) → behind_type l o ≡ Some l' → Stands l'.operands l'.unreachable m' → (t : List ValType × List ValType) × (o ≡ Some t) × (below : List ValType) × (Stands l.operands l.unreachable (t.0 ++ below)) × (m' ≡ t.1 ++ below)
 type-from None l l' m' h s = absurd (cc)
 type-from (Some t) l l' m' h s =
-    let a = map-some (λ os. record l { operands = map Some t.1 ++ os }) (all_taken t.0 l.operands l.dead) l' h in
-    let s' : Stands (map Some t.1 ++ a.0) l.dead m' = subst (λ (x : Level). Stands x.operands x.dead m') (sym a.2) s in
-    let p = pushed-from t.1 a.0 l.dead m' s' in
-    (t, refl, p.0, all-from t.0 l.operands a.0 l.dead p.0 a.1 p.2, p.1)
+    let a = map-some (λ os. record l { operands = map Some t.1 ++ os }) (all_taken t.0 l.operands l.unreachable) l' h in
+    let s' : Stands (map Some t.1 ++ a.0) l.unreachable m' = subst (λ (x : ControlFrame). Stands x.operands x.unreachable m') (sym a.2) s in
+    let p = pushed-from t.1 a.0 l.unreachable m' s' in
+    (t, refl, p.0, all-from t.0 l.operands a.0 l.unreachable p.0 a.1 p.2, p.1)
 
-type-to : (o : Option (List ValType × List ValType)) (l : Level) (t : List ValType × List ValType) (below : List ValType) → o ≡ Some t → Stands l.operands l.dead (t.0 ++ below) → (l' : Level) × (behind_type l o ≡ Some l') × Stands l'.operands l'.dead (t.1 ++ below)
+type-to : (o : Option (List ValType × List ValType)) (l : ControlFrame) (t : List ValType × List ValType) (below : List ValType) → o ≡ Some t → Stands l.operands l.unreachable (t.0 ++ below) → (l' : ControlFrame) × (behind_type l o ≡ Some l') × Stands l'.operands l'.unreachable (t.1 ++ below)
 type-to o l t below h s =
-    let a = all-to t.0 l.operands l.dead below s in
-    (record l { operands = map Some t.1 ++ a.0 }, ap (behind_type l) h ∙ ap (option_map (λ os. record l { operands = map Some t.1 ++ os })) a.1, pushed-to t.1 a.0 l.dead below a.2)
+    let a = all-to t.0 l.operands l.unreachable below s in
+    (record l { operands = map Some t.1 ++ a.0 }, ap (behind_type l) h ∙ ap (option_map (λ os. record l { operands = map Some t.1 ++ os })) a.1, pushed-to t.1 a.0 l.unreachable below a.2)
 
 -- instructions that never go on
-end-from : (o : Option (List ValType)) (l l' : Level) → behind_end l o ≡ Some l' → (ts : List ValType) × (o ≡ Some ts) × (below : List ValType) × (Stands l.operands l.dead (ts ++ below))
+end-from : (o : Option (List ValType)) (l l' : ControlFrame) → behind_end l o ≡ Some l' → (ts : List ValType) × (o ≡ Some ts) × (below : List ValType) × (Stands l.operands l.unreachable (ts ++ below))
 end-from None l l' h = absurd (cc)
 end-from (Some ts) l l' h =
-    let a = map-some (λ os. record l { operands = []; dead = true }) (all_taken ts l.operands l.dead) l' h in
-    let some = stands-some a.0 l.dead in
-    (ts, refl, some.0, all-from ts l.operands a.0 l.dead some.0 a.1 some.1)
+    let a = map-some (λ os. record l { operands = []; unreachable = true }) (all_taken ts l.operands l.unreachable) l' h in
+    let some = stands-some a.0 l.unreachable in
+    (ts, refl, some.0, all-from ts l.operands a.0 l.unreachable some.0 a.1 some.1)
 
-end-to : (o : Option (List ValType)) (l : Level) (ts below m' : List ValType) → o ≡ Some ts → Stands l.operands l.dead (ts ++ below) → (l' : Level) × (behind_end l o ≡ Some l') × Stands l'.operands l'.dead m'
+end-to : (o : Option (List ValType)) (l : ControlFrame) (ts below m' : List ValType) → o ≡ Some ts → Stands l.operands l.unreachable (ts ++ below) → (l' : ControlFrame) × (behind_end l o ≡ Some l') × Stands l'.operands l'.unreachable m'
 end-to o l ts below m' h s =
-    let a = all-to ts l.operands l.dead below s in
-    (record l { operands = []; dead = true }, ap (behind_end l) h ∙ ap (option_map (λ os. record l { operands = []; dead = true })) a.1, tt)
+    let a = all-to ts l.operands l.unreachable below s in
+    (record l { operands = []; unreachable = true }, ap (behind_end l) h ∙ ap (option_map (λ os. record l { operands = []; unreachable = true })) a.1, tt)
 
 append-none : {A : Type 0} (xs : List A) → xs ++ [] ≡ xs
 append-none [] = refl
@@ -94,94 +95,94 @@ take-to c (l ∷ ls) t h =
     ap (λ o. elim o as (λ x. Bool) [ None ↦ false | Some u ↦ same_result u t && all_take c ls t ]) h.0 ∙ rw (result-refl t) (take-to c ls t h.1)
 
 -- what stands behind an instruction comes from operands in front of it
-pub from-behind : (c : Context) (i : Instr) (l l' : Level) (m' : List ValType) → behind c i l ≡ Some l' → Stands l'.operands l'.dead m' → Leads c i l m'
+pub from-behind : (c : Context) (i : Instr) (l l' : ControlFrame) (m' : List ValType) → behind c i l ≡ Some l' → Stands l'.operands l'.unreachable m' → Leads c i l m'
 from-behind c Drop l l' m' h s =
-    let a = map-some (λ os. record l { operands = os }) (any_taken l.operands l.dead) l' h in
-    let s' : Stands a.0 l.dead m' = subst (λ (x : Level). Stands x.operands x.dead m') (sym a.2) s in
-    let t = any-from l.operands a.0 l.dead m' a.1 s' in
+    let a = map-some (λ os. record l { operands = os }) (any_taken l.operands l.unreachable) l' h in
+    let s' : Stands a.0 l.unreachable m' = subst (λ (x : ControlFrame). Stands x.operands x.unreachable m') (sym a.2) s in
+    let t = any-from l.operands a.0 l.unreachable m' a.1 s' in
     record { x = t.0 ∷ []; y = []; below = m'; typed = (t.0, refl, refl); from = t.1; to = refl }
 from-behind c Select l l' m' h s =
-    let a = map-some (λ os. record l { operands = os }) (selected l.operands l.dead) l' h in
-    let s' : Stands a.0 l.dead m' = subst (λ (x : Level). Stands x.operands x.dead m') (sym a.2) s in
-    let t = selected-from l.operands a.0 l.dead m' a.1 s' in
+    let a = map-some (λ os. record l { operands = os }) (selected l.operands l.unreachable) l' h in
+    let s' : Stands a.0 l.unreachable m' = subst (λ (x : ControlFrame). Stands x.operands x.unreachable m') (sym a.2) s in
+    let t = selected-from l.operands a.0 l.unreachable m' a.1 s' in
     record { x = I32 ∷ t.0 ∷ t.0 ∷ []; y = t.0 ∷ []; below = t.1; typed = (t.0, refl, refl); from = t.3; to = t.2 }
 from-behind c Unreachable l l' m' h s =
     let e = end-from (needs c Unreachable) l l' h in
     let none : [] ≡ e.0 = cc in
-    record { x = e.0 ++ e.2; y = m'; below = []; typed = tt; from = subst (λ x. Stands l.operands l.dead x) (sym (append-none (e.0 ++ e.2))) e.3; to = sym (append-none m') }
+    record { x = e.0 ++ e.2; y = m'; below = []; typed = tt; from = subst (λ x. Stands l.operands l.unreachable x) (sym (append-none (e.0 ++ e.2))) e.3; to = sym (append-none m') }
 from-behind c (Br n) l l' m' h s =
     let e = end-from (needs c (Br n)) l l' h in
     let b = map-some operands_of (slice_get c.labels n) e.0 e.1 in
-    record { x = e.0 ++ e.2; y = m'; below = []; typed = (b.0, b.1, (e.2, ap (λ x. x ++ e.2) (sym b.2))); from = subst (λ x. Stands l.operands l.dead x) (sym (append-none (e.0 ++ e.2))) e.3; to = sym (append-none m') }
+    record { x = e.0 ++ e.2; y = m'; below = []; typed = (b.0, b.1, (e.2, ap (λ x. x ++ e.2) (sym b.2))); from = subst (λ x. Stands l.operands l.unreachable x) (sym (append-none (e.0 ++ e.2))) e.3; to = sym (append-none m') }
 from-behind c (BrTable ns n) l l' m' h s =
     let e = end-from (needs c (BrTable ns n)) l l' h in
     let b = bind-some (λ t. cond (all_take c ns t) (Some (I32 ∷ operands_of t)) None) (slice_get c.labels n) e.0 e.1 in
     let d = cond-some (all_take c ns b.0) (I32 ∷ operands_of b.0) e.0 b.2 in
-    record { x = e.0 ++ e.2; y = m'; below = []; typed = (b.0, (b.1, take-from c ns b.0 d.0), (e.2, ap (λ x. x ++ e.2) (sym d.1))); from = subst (λ x. Stands l.operands l.dead x) (sym (append-none (e.0 ++ e.2))) e.3; to = sym (append-none m') }
+    record { x = e.0 ++ e.2; y = m'; below = []; typed = (b.0, (b.1, take-from c ns b.0 d.0), (e.2, ap (λ x. x ++ e.2) (sym d.1))); from = subst (λ x. Stands l.operands l.unreachable x) (sym (append-none (e.0 ++ e.2))) e.3; to = sym (append-none m') }
 from-behind c Return l l' m' h s =
     let e = end-from (needs c Return) l l' h in
     let q : operands_of c.result ≡ e.0 = cc in
-    record { x = e.0 ++ e.2; y = m'; below = []; typed = (e.2, ap (λ x. x ++ e.2) (sym q)); from = subst (λ x. Stands l.operands l.dead x) (sym (append-none (e.0 ++ e.2))) e.3; to = sym (append-none m') }
+    record { x = e.0 ++ e.2; y = m'; below = []; typed = (e.2, ap (λ x. x ++ e.2) (sym q)); from = subst (λ x. Stands l.operands l.unreachable x) (sym (append-none (e.0 ++ e.2))) e.3; to = sym (append-none m') }
 from-behind c i l l' m' h s =
     let e = type-from (type_of c i) l l' m' h s in
     record { x = e.0.0; y = e.0.1; below = e.2; typed = e.1; from = e.3; to = e.4 }
 
 -- what an instruction leads to stands behind it
-pub to-behind : (c : Context) (i : Instr) (l : Level) (m' : List ValType) → Leads c i l m' → Behind c i l m'
+pub to-behind : (c : Context) (i : Instr) (l : ControlFrame) (m' : List ValType) → Leads c i l m' → Behind c i l m'
 to-behind c Drop l m' a =
-    let s : Stands l.operands l.dead (a.typed.0 ∷ a.below) = subst (λ x. Stands l.operands l.dead (x ++ a.below)) a.typed.1 a.from in
-    let t = any-to a.typed.0 l.operands l.dead a.below s in
+    let s : Stands l.operands l.unreachable (a.typed.0 ∷ a.below) = subst (λ x. Stands l.operands l.unreachable (x ++ a.below)) a.typed.1 a.from in
+    let t = any-to a.typed.0 l.operands l.unreachable a.below s in
     let same : a.below ≡ m' = sym (a.to ∙ ap (λ y. y ++ a.below) a.typed.2) in
-    record { level = record l { operands = t.0 }; is = ap (option_map (λ os. record l { operands = os })) t.1; stands = subst (λ x. Stands t.0 l.dead x) same t.2 }
+    record { frame = record l { operands = t.0 }; is = ap (option_map (λ os. record l { operands = os })) t.1; stands = subst (λ x. Stands t.0 l.unreachable x) same t.2 }
 to-behind c Select l m' a =
-    let s : Stands l.operands l.dead (I32 ∷ a.typed.0 ∷ a.typed.0 ∷ a.below) = subst (λ x. Stands l.operands l.dead (x ++ a.below)) a.typed.1 a.from in
-    let t = selected-to a.typed.0 l.operands l.dead a.below s in
+    let s : Stands l.operands l.unreachable (I32 ∷ a.typed.0 ∷ a.typed.0 ∷ a.below) = subst (λ x. Stands l.operands l.unreachable (x ++ a.below)) a.typed.1 a.from in
+    let t = selected-to a.typed.0 l.operands l.unreachable a.below s in
     let same : a.typed.0 ∷ a.below ≡ m' = sym (a.to ∙ ap (λ y. y ++ a.below) a.typed.2) in
-    record { level = record l { operands = t.0 }; is = ap (option_map (λ os. record l { operands = os })) t.1; stands = subst (λ x. Stands t.0 l.dead x) same t.2 }
+    record { frame = record l { operands = t.0 }; is = ap (option_map (λ os. record l { operands = os })) t.1; stands = subst (λ x. Stands t.0 l.unreachable x) same t.2 }
 to-behind c Unreachable l m' a =
     let e = end-to (needs c Unreachable) l [] (a.x ++ a.below) m' refl a.from in
-    record { level = e.0; is = e.1; stands = e.2 }
+    record { frame = e.0; is = e.1; stands = e.2 }
 to-behind c (Br n) l m' a =
     let t = a.typed in
-    let s : Stands l.operands l.dead (operands_of t.0 ++ (t.2.0 ++ a.below)) = subst (λ x. Stands l.operands l.dead x) (ap (λ x. x ++ a.below) t.2.1 ∙ append_assoc (operands_of t.0) t.2.0 a.below) a.from in
+    let s : Stands l.operands l.unreachable (operands_of t.0 ++ (t.2.0 ++ a.below)) = subst (λ x. Stands l.operands l.unreachable x) (ap (λ x. x ++ a.below) t.2.1 ∙ append_assoc (operands_of t.0) t.2.0 a.below) a.from in
     let e = end-to (needs c (Br n)) l (operands_of t.0) (t.2.0 ++ a.below) m' (ap (option_map operands_of) t.1) s in
-    record { level = e.0; is = e.1; stands = e.2 }
+    record { frame = e.0; is = e.1; stands = e.2 }
 to-behind c (BrTable ns n) l m' a =
     let t = a.typed in
     let ts = I32 ∷ operands_of t.0 in
-    let s : Stands l.operands l.dead (ts ++ (t.2.0 ++ a.below)) = subst (λ x. Stands l.operands l.dead x) (ap (λ x. x ++ a.below) t.2.1 ∙ append_assoc ts t.2.0 a.below) a.from in
+    let s : Stands l.operands l.unreachable (ts ++ (t.2.0 ++ a.below)) = subst (λ x. Stands l.operands l.unreachable x) (ap (λ x. x ++ a.below) t.2.1 ∙ append_assoc ts t.2.0 a.below) a.from in
     let need : needs c (BrTable ns n) ≡ Some ts = ap (option_and_then (λ u. cond (all_take c ns u) (Some (I32 ∷ operands_of u)) None)) t.1.0 ∙ ap (λ b. cond b (Some ts) None) (take-to c ns t.0 t.1.1) in
     let e = end-to (needs c (BrTable ns n)) l ts (t.2.0 ++ a.below) m' need s in
-    record { level = e.0; is = e.1; stands = e.2 }
+    record { frame = e.0; is = e.1; stands = e.2 }
 to-behind c Return l m' a =
     let t = a.typed in
-    let s : Stands l.operands l.dead (operands_of c.result ++ (t.0 ++ a.below)) = subst (λ x. Stands l.operands l.dead x) (ap (λ x. x ++ a.below) t.1 ∙ append_assoc (operands_of c.result) t.0 a.below) a.from in
+    let s : Stands l.operands l.unreachable (operands_of c.result ++ (t.0 ++ a.below)) = subst (λ x. Stands l.operands l.unreachable x) (ap (λ x. x ++ a.below) t.1 ∙ append_assoc (operands_of c.result) t.0 a.below) a.from in
     let e = end-to (needs c Return) l (operands_of c.result) (t.0 ++ a.below) m' refl s in
-    record { level = e.0; is = e.1; stands = e.2 }
+    record { frame = e.0; is = e.1; stands = e.2 }
 to-behind c i l m' a =
     let e = type-to (type_of c i) l (a.x, a.y) a.below a.typed a.from in
-    record { level = e.0; is = e.1; stands = subst (λ x. Stands e.0.operands e.0.dead x) (sym a.to) e.2 }
+    record { frame = e.0; is = e.1; stands = subst (λ x. Stands e.0.operands e.0.unreachable x) (sym a.to) e.2 }
 
 -- the block stays
-type-block : (l l' : Level) (o : Option (List ValType × List ValType)) → behind_type l o ≡ Some l' → SameBlock l l'
+type-block : (l l' : ControlFrame) (o : Option (List ValType × List ValType)) → behind_type l o ≡ Some l' → SameBlock l l'
 type-block l l' None h = absurd (cc)
 type-block l l' (Some t) h =
-    let a = map-some (λ os. record l { operands = map Some t.1 ++ os }) (all_taken t.0 l.operands l.dead) l' h in
-    record { kind = sym (ap (λ (x : Level). x.kind) a.2); result = sym (ap (λ (x : Level). x.result) a.2) }
+    let a = map-some (λ os. record l { operands = map Some t.1 ++ os }) (all_taken t.0 l.operands l.unreachable) l' h in
+    record { kind = sym (ap (λ (x : ControlFrame). x.kind) a.2); result = sym (ap (λ (x : ControlFrame). x.result) a.2) }
 
-end-block : (l l' : Level) (o : Option (List ValType)) → behind_end l o ≡ Some l' → SameBlock l l'
+end-block : (l l' : ControlFrame) (o : Option (List ValType)) → behind_end l o ≡ Some l' → SameBlock l l'
 end-block l l' None h = absurd (cc)
 end-block l l' (Some ts) h =
-    let a = map-some (λ os. record l { operands = []; dead = true }) (all_taken ts l.operands l.dead) l' h in
-    record { kind = sym (ap (λ (x : Level). x.kind) a.2); result = sym (ap (λ (x : Level). x.result) a.2) }
+    let a = map-some (λ os. record l { operands = []; unreachable = true }) (all_taken ts l.operands l.unreachable) l' h in
+    record { kind = sym (ap (λ (x : ControlFrame). x.kind) a.2); result = sym (ap (λ (x : ControlFrame). x.result) a.2) }
 
-pub same-block : (c : Context) (i : Instr) (l l' : Level) → behind c i l ≡ Some l' → SameBlock l l'
+pub same-block : (c : Context) (i : Instr) (l l' : ControlFrame) → behind c i l ≡ Some l' → SameBlock l l'
 same-block c Drop l l' h =
-    let a = map-some (λ os. record l { operands = os }) (any_taken l.operands l.dead) l' h in
-    record { kind = sym (ap (λ (x : Level). x.kind) a.2); result = sym (ap (λ (x : Level). x.result) a.2) }
+    let a = map-some (λ os. record l { operands = os }) (any_taken l.operands l.unreachable) l' h in
+    record { kind = sym (ap (λ (x : ControlFrame). x.kind) a.2); result = sym (ap (λ (x : ControlFrame). x.result) a.2) }
 same-block c Select l l' h =
-    let a = map-some (λ os. record l { operands = os }) (selected l.operands l.dead) l' h in
-    record { kind = sym (ap (λ (x : Level). x.kind) a.2); result = sym (ap (λ (x : Level). x.result) a.2) }
+    let a = map-some (λ os. record l { operands = os }) (selected l.operands l.unreachable) l' h in
+    record { kind = sym (ap (λ (x : ControlFrame). x.kind) a.2); result = sym (ap (λ (x : ControlFrame). x.result) a.2) }
 same-block c Unreachable l l' h = end-block l l' (needs c Unreachable) h
 same-block c (Br n) l l' h = end-block l l' (needs c (Br n)) h
 same-block c (BrTable ns n) l l' h = end-block l l' (needs c (BrTable ns n)) h

@@ -1,26 +1,27 @@
--- For which operand types a level stands.
+-- For which operand types a frame stands.
 use Rattle.std.proofs.Common.{true, false, cond, Bool, ◌≡◌, List, [], ◌∷◌, ◌++◌, Option, Some, None, refl, sym, ap, ◌∙◌, subst}
+use Rattle.mv_syntax.specs.Types.{same_type}
 use Rattle.std.specs.Prelude.{map, option_and_then}
 use Rattle.std.specs.Option.{option_map}
 use Rattle.mv_syntax.specs.declared.ops.ValType.{ValType}
 use Rattle.mv_syntax.specs.declared.ops.ValType.TheVariants.{I32, I64}
-use Rattle.mv_validator.specs.Slots.{same_type, fits_type, taken, all_taken, any_taken, slot_taken, met, both_met, two_met, selected}
-use Rattle.mv_validator.specs.Levels.{is_empty}
+use Rattle.mv_validator.specs.OperandStack.{fits_type, taken, all_taken, any_taken, operand_taken, met, both_met, two_met, selected}
+use Rattle.mv_validator.specs.ControlFrames.{is_empty}
 
-abbrev pub Slots : Type 0
-Slots = List (Option ValType)
+abbrev pub OperandStack : Type 0
+OperandStack = List (Option ValType)
 
 -- a known type is itself, and an unknown one is any
 abbrev pub Fits : Option ValType → ValType → Type 0
 Fits None t = Unit {0}
 Fits (Some u) t = u ≡ t
 
--- The operand types for which known ones stand. In dead code any may lie below.
-abbrev pub Stands : Slots → Bool → List ValType → Type 0
+-- The operand types for which known ones stand. In unreachable code any may lie below.
+abbrev pub Stands : OperandStack → Bool → List ValType → Type 0
 Stands [] true m = Unit {0}
 Stands [] false m = m ≡ []
-Stands (o ∷ os) dead [] = ⊥
-Stands (o ∷ os) dead (t ∷ m) = Fits o t × Stands os dead m
+Stands (o ∷ os) unreachable [] = ⊥
+Stands (o ∷ os) unreachable (t ∷ m) = Fits o t × Stands os unreachable m
 
 pub same-is : (a b : ValType) → same_type a b ≡ true → a ≡ b
 same-is I32 I32 h = refl
@@ -53,62 +54,62 @@ bind-some f None y h = absurd (cc)
 bind-some f (Some x) y h = (x, refl, h)
 
 -- one operand of a type
-pub taken-from : (t : ValType) (os rest : Slots) (dead : Bool) (m : List ValType) → taken t os dead ≡ Some rest → Stands rest dead m → Stands os dead (t ∷ m)
+pub taken-from : (t : ValType) (os rest : OperandStack) (unreachable : Bool) (m : List ValType) → taken t os unreachable ≡ Some rest → Stands rest unreachable m → Stands os unreachable (t ∷ m)
 taken-from t [] rest true m h s = tt
 taken-from t [] rest false m h s = absurd (cc)
-taken-from t (o ∷ os) rest dead m h s =
+taken-from t (o ∷ os) rest unreachable m h s =
     let c = cond-some (fits_type o t) os rest h in
-    (fits-is o t c.0, subst (λ x. Stands x dead m) (sym c.1) s)
+    (fits-is o t c.0, subst (λ x. Stands x unreachable m) (sym c.1) s)
 
-pub taken-to : (t : ValType) (os : Slots) (dead : Bool) (m : List ValType) → Stands os dead (t ∷ m) → (rest : Slots) × (taken t os dead ≡ Some rest) × Stands rest dead m
+pub taken-to : (t : ValType) (os : OperandStack) (unreachable : Bool) (m : List ValType) → Stands os unreachable (t ∷ m) → (rest : OperandStack) × (taken t os unreachable ≡ Some rest) × Stands rest unreachable m
 taken-to t [] true m s = ([], refl, tt)
 taken-to t [] false m s = absurd (cc)
-taken-to t (o ∷ os) dead m s = (os, ap (λ b. cond b (Some os) None) (is-fits o t s.0), s.1)
+taken-to t (o ∷ os) unreachable m s = (os, ap (λ b. cond b (Some os) None) (is-fits o t s.0), s.1)
 
 -- operands of types
-pub all-from : (ts : List ValType) (os rest : Slots) (dead : Bool) (m : List ValType) → all_taken ts os dead ≡ Some rest → Stands rest dead m → Stands os dead (ts ++ m)
-all-from [] os rest dead m h s = let e : os ≡ rest = cc in subst (λ x. Stands x dead m) (sym e) s
-all-from (t ∷ ts) os rest dead m h s =
-    let b = bind-some (λ x. all_taken ts x dead) (taken t os dead) rest h in
-    taken-from t os b.0 dead (ts ++ m) b.1 (all-from ts b.0 rest dead m b.2 s)
+pub all-from : (ts : List ValType) (os rest : OperandStack) (unreachable : Bool) (m : List ValType) → all_taken ts os unreachable ≡ Some rest → Stands rest unreachable m → Stands os unreachable (ts ++ m)
+all-from [] os rest unreachable m h s = let e : os ≡ rest = cc in subst (λ x. Stands x unreachable m) (sym e) s
+all-from (t ∷ ts) os rest unreachable m h s =
+    let b = bind-some (λ x. all_taken ts x unreachable) (taken t os unreachable) rest h in
+    taken-from t os b.0 unreachable (ts ++ m) b.1 (all-from ts b.0 rest unreachable m b.2 s)
 
-pub all-to : (ts : List ValType) (os : Slots) (dead : Bool) (m : List ValType) → Stands os dead (ts ++ m) → (rest : Slots) × (all_taken ts os dead ≡ Some rest) × Stands rest dead m
-all-to [] os dead m s = (os, refl, s)
-all-to (t ∷ ts) os dead m s =
-    let a = taken-to t os dead (ts ++ m) s in
-    let b = all-to ts a.0 dead m a.2 in
-    (b.0, ap (option_and_then (λ x. all_taken ts x dead)) a.1 ∙ b.1, b.2)
+pub all-to : (ts : List ValType) (os : OperandStack) (unreachable : Bool) (m : List ValType) → Stands os unreachable (ts ++ m) → (rest : OperandStack) × (all_taken ts os unreachable ≡ Some rest) × Stands rest unreachable m
+all-to [] os unreachable m s = (os, refl, s)
+all-to (t ∷ ts) os unreachable m s =
+    let a = taken-to t os unreachable (ts ++ m) s in
+    let b = all-to ts a.0 unreachable m a.2 in
+    (b.0, ap (option_and_then (λ x. all_taken ts x unreachable)) a.1 ∙ b.1, b.2)
 
 -- an operand of any type
-pub any-from : (os rest : Slots) (dead : Bool) (m : List ValType) → any_taken os dead ≡ Some rest → Stands rest dead m → (t : ValType) × Stands os dead (t ∷ m)
+pub any-from : (os rest : OperandStack) (unreachable : Bool) (m : List ValType) → any_taken os unreachable ≡ Some rest → Stands rest unreachable m → (t : ValType) × Stands os unreachable (t ∷ m)
 any-from [] rest true m h s = (I32, tt)
 any-from [] rest false m h s = absurd (cc)
-any-from (None ∷ os) rest dead m h s = let e : os ≡ rest = cc in (I32, (tt, subst (λ x. Stands x dead m) (sym e) s))
-any-from (Some u ∷ os) rest dead m h s = let e : os ≡ rest = cc in (u, (refl, subst (λ x. Stands x dead m) (sym e) s))
+any-from (None ∷ os) rest unreachable m h s = let e : os ≡ rest = cc in (I32, (tt, subst (λ x. Stands x unreachable m) (sym e) s))
+any-from (Some u ∷ os) rest unreachable m h s = let e : os ≡ rest = cc in (u, (refl, subst (λ x. Stands x unreachable m) (sym e) s))
 
-pub any-to : (t : ValType) (os : Slots) (dead : Bool) (m : List ValType) → Stands os dead (t ∷ m) → (rest : Slots) × (any_taken os dead ≡ Some rest) × Stands rest dead m
+pub any-to : (t : ValType) (os : OperandStack) (unreachable : Bool) (m : List ValType) → Stands os unreachable (t ∷ m) → (rest : OperandStack) × (any_taken os unreachable ≡ Some rest) × Stands rest unreachable m
 any-to t [] true m s = ([], refl, tt)
 any-to t [] false m s = absurd (cc)
-any-to t (o ∷ os) dead m s = (os, refl, s.1)
+any-to t (o ∷ os) unreachable m s = (os, refl, s.1)
 
 -- operands that were pushed
-pub pushed-from : (ts : List ValType) (os : Slots) (dead : Bool) (m : List ValType) → Stands (map Some ts ++ os) dead m → (below : List ValType) × (m ≡ ts ++ below) × Stands os dead below
-pushed-from [] os dead m s = (m, refl, s)
-pushed-from (t ∷ ts) os dead [] s = absurd s
-pushed-from (t ∷ ts) os dead (u ∷ m) s =
-    let p = pushed-from ts os dead m s.1 in
+pub pushed-from : (ts : List ValType) (os : OperandStack) (unreachable : Bool) (m : List ValType) → Stands (map Some ts ++ os) unreachable m → (below : List ValType) × (m ≡ ts ++ below) × Stands os unreachable below
+pushed-from [] os unreachable m s = (m, refl, s)
+pushed-from (t ∷ ts) os unreachable [] s = absurd s
+pushed-from (t ∷ ts) os unreachable (u ∷ m) s =
+    let p = pushed-from ts os unreachable m s.1 in
     (p.0, ap (λ x. x ∷ m) (sym s.0) ∙ ap (λ l. t ∷ l) p.1, p.2)
 
-pub pushed-to : (ts : List ValType) (os : Slots) (dead : Bool) (below : List ValType) → Stands os dead below → Stands (map Some ts ++ os) dead (ts ++ below)
-pushed-to [] os dead below s = s
-pushed-to (t ∷ ts) os dead below s = (refl, pushed-to ts os dead below s)
+pub pushed-to : (ts : List ValType) (os : OperandStack) (unreachable : Bool) (below : List ValType) → Stands os unreachable below → Stands (map Some ts ++ os) unreachable (ts ++ below)
+pushed-to [] os unreachable below s = s
+pushed-to (t ∷ ts) os unreachable below s = (refl, pushed-to ts os unreachable below s)
 
--- a level stands for some operands
-pub stands-some : (os : Slots) (dead : Bool) → (m : List ValType) × Stands os dead m
+-- a frame stands for some operands
+pub stands-some : (os : OperandStack) (unreachable : Bool) → (m : List ValType) × Stands os unreachable m
 stands-some [] true = ([], tt)
 stands-some [] false = ([], refl)
-stands-some (None ∷ os) dead = let s = stands-some os dead in (I32 ∷ s.0, (tt, s.1))
-stands-some (Some u ∷ os) dead = let s = stands-some os dead in (u ∷ s.0, (refl, s.1))
+stands-some (None ∷ os) unreachable = let s = stands-some os unreachable in (I32 ∷ s.0, (tt, s.1))
+stands-some (Some u ∷ os) unreachable = let s = stands-some os unreachable in (u ∷ s.0, (refl, s.1))
 
 empty-is : {A : Type 0} (xs : List A) → is_empty xs ≡ true → xs ≡ []
 empty-is [] h = refl
@@ -118,38 +119,38 @@ pub append-none : {A : Type 0} (xs : List A) → xs ++ [] ≡ xs
 append-none [] = refl
 append-none (x ∷ xs) = ap (λ l. x ∷ l) (append-none xs)
 
-stands-none : (dead : Bool) → Stands [] dead []
+stands-none : (unreachable : Bool) → Stands [] unreachable []
 stands-none true = tt
 stands-none false = refl
 
 -- operands that are these and no more
-pub exactly-from : (ts : List ValType) (os rest : Slots) (dead : Bool) → all_taken ts os dead ≡ Some rest → is_empty rest ≡ true → Stands os dead ts
-exactly-from ts os rest dead h e =
-    subst (λ x. Stands os dead x) (append-none ts) (all-from ts os rest dead [] h (subst (λ x. Stands x dead []) (sym (empty-is rest e)) (stands-none dead)))
+pub exactly-from : (ts : List ValType) (os rest : OperandStack) (unreachable : Bool) → all_taken ts os unreachable ≡ Some rest → is_empty rest ≡ true → Stands os unreachable ts
+exactly-from ts os rest unreachable h e =
+    subst (λ x. Stands os unreachable x) (append-none ts) (all-from ts os rest unreachable [] h (subst (λ x. Stands x unreachable []) (sym (empty-is rest e)) (stands-none unreachable)))
 
-no-more : (rest : Slots) (dead : Bool) → Stands rest dead [] → is_empty rest ≡ true
-no-more [] dead s = refl
-no-more (o ∷ os) dead s = absurd s
+no-more : (rest : OperandStack) (unreachable : Bool) → Stands rest unreachable [] → is_empty rest ≡ true
+no-more [] unreachable s = refl
+no-more (o ∷ os) unreachable s = absurd s
 
-pub exactly-to : (ts : List ValType) (os : Slots) (dead : Bool) → Stands os dead ts → (rest : Slots) × (all_taken ts os dead ≡ Some rest) × (is_empty rest ≡ true)
-exactly-to ts os dead s =
-    let a = all-to ts os dead [] (subst (λ x. Stands os dead x) (sym (append-none ts)) s) in
-    (a.0, a.1, no-more a.0 dead a.2)
+pub exactly-to : (ts : List ValType) (os : OperandStack) (unreachable : Bool) → Stands os unreachable ts → (rest : OperandStack) × (all_taken ts os unreachable ≡ Some rest) × (is_empty rest ≡ true)
+exactly-to ts os unreachable s =
+    let a = all-to ts os unreachable [] (subst (λ x. Stands os unreachable x) (sym (append-none ts)) s) in
+    (a.0, a.1, no-more a.0 unreachable a.2)
 
 -- an operand of which something is known
-slot-from : (os rest : Slots) (o : Option ValType) (dead : Bool) (t : ValType) (m : List ValType) → slot_taken os dead ≡ Some (o, rest) → Fits o t → Stands rest dead m → Stands os dead (t ∷ m)
-slot-from [] rest o true t m h f s = tt
-slot-from [] rest o false t m h f s = absurd (cc)
-slot-from (p ∷ os) rest o dead t m h f s =
+operand-from : (os rest : OperandStack) (o : Option ValType) (unreachable : Bool) (t : ValType) (m : List ValType) → operand_taken os unreachable ≡ Some (o, rest) → Fits o t → Stands rest unreachable m → Stands os unreachable (t ∷ m)
+operand-from [] rest o true t m h f s = tt
+operand-from [] rest o false t m h f s = absurd (cc)
+operand-from (p ∷ os) rest o unreachable t m h f s =
     let e : (p, os) ≡ (o, rest) = cc in
-    let front : p ≡ o = ap (λ (x : Option ValType × Slots). x.0) e in
-    let back : os ≡ rest = ap (λ (x : Option ValType × Slots). x.1) e in
-    (subst (λ x. Fits x t) (sym front) f, subst (λ x. Stands x dead m) (sym back) s)
+    let front : p ≡ o = ap (λ (x : Option ValType × OperandStack). x.0) e in
+    let back : os ≡ rest = ap (λ (x : Option ValType × OperandStack). x.1) e in
+    (subst (λ x. Fits x t) (sym front) f, subst (λ x. Stands x unreachable m) (sym back) s)
 
-slot-to : (os : Slots) (dead : Bool) (t : ValType) (m : List ValType) → Stands os dead (t ∷ m) → (o : Option ValType) × (rest : Slots) × (slot_taken os dead ≡ Some (o, rest)) × Fits o t × Stands rest dead m
-slot-to [] true t m s = (None, [], refl, tt, tt)
-slot-to [] false t m s = absurd (cc)
-slot-to (o ∷ os) dead t m s = (o, os, refl, s.0, s.1)
+operand-to : (os : OperandStack) (unreachable : Bool) (t : ValType) (m : List ValType) → Stands os unreachable (t ∷ m) → (o : Option ValType) × (rest : OperandStack) × (operand_taken os unreachable ≡ Some (o, rest)) × Fits o t × Stands rest unreachable m
+operand-to [] true t m s = (None, [], refl, tt, tt)
+operand-to [] false t m s = absurd (cc)
+operand-to (o ∷ os) unreachable t m s = (o, os, refl, s.0, s.1)
 
 -- two operands of one type
 met-from : (a b o : Option ValType) (t : ValType) → met a b ≡ Some o → Fits o t → Fits a t × Fits b t
@@ -166,44 +167,44 @@ met-to (Some a) None t f g = (Some a, refl, f)
 met-to (Some a) (Some b) t f g = (Some a, ap (λ x. cond x (Some (Some a)) None) (ap (λ x. same_type x b) (f ∙ sym g) ∙ same-refl b), f)
 
 -- both operands of a `select`, on the others
-pub record Pair (os : Slots) (dead : Bool) (m : List ValType) : Type 0 where
+pub record Pair (os : OperandStack) (unreachable : Bool) (m : List ValType) : Type 0 where
   pub type : ValType
   pub below : List ValType
   pub is : m ≡ type ∷ below
-  pub stands : Stands os dead (type ∷ type ∷ below)
+  pub stands : Stands os unreachable (type ∷ type ∷ below)
 
-both-from : (a : Option ValType) (b : Option (Option ValType × Slots)) (os rest : Slots) (dead : Bool) (m : List ValType) → slot_taken os dead ≡ b → both_met a b ≡ Some rest → Stands rest dead m → (t : ValType) × (below : List ValType) × (m ≡ t ∷ below) × Fits a t × Stands os dead (t ∷ below)
-both-from a None os rest dead m e h s = absurd (cc)
-both-from a (Some b) os rest dead m e h s =
+both-from : (a : Option ValType) (b : Option (Option ValType × OperandStack)) (os rest : OperandStack) (unreachable : Bool) (m : List ValType) → operand_taken os unreachable ≡ b → both_met a b ≡ Some rest → Stands rest unreachable m → (t : ValType) × (below : List ValType) × (m ≡ t ∷ below) × Fits a t × Stands os unreachable (t ∷ below)
+both-from a None os rest unreachable m e h s = absurd (cc)
+both-from a (Some b) os rest unreachable m e h s =
     let k = map-some (λ o. o ∷ b.1) (met a b.0) rest h in
-    by m k.0 (subst (λ x. Stands x dead m) (sym k.2) s) k.1
+    by m k.0 (subst (λ x. Stands x unreachable m) (sym k.2) s) k.1
   where
-    by : (n : List ValType) (o : Option ValType) → Stands (o ∷ b.1) dead n → met a b.0 ≡ Some o → (t : ValType) × (below : List ValType) × (n ≡ t ∷ below) × Fits a t × Stands os dead (t ∷ below)
+    by : (n : List ValType) (o : Option ValType) → Stands (o ∷ b.1) unreachable n → met a b.0 ≡ Some o → (t : ValType) × (below : List ValType) × (n ≡ t ∷ below) × Fits a t × Stands os unreachable (t ∷ below)
     by [] o s' k = absurd s'
     by (t ∷ n) o s' k =
         let f = met-from a b.0 o t k s'.0 in
-        (t, n, refl, f.0, slot-from os b.1 b.0 dead t n e f.1 s'.1)
+        (t, n, refl, f.0, operand-from os b.1 b.0 unreachable t n e f.1 s'.1)
 
-two-from : (a : Option (Option ValType × Slots)) (os rest : Slots) (dead : Bool) (m : List ValType) → slot_taken os dead ≡ a → two_met dead a ≡ Some rest → Stands rest dead m → Pair os dead m
-two-from None os rest dead m e h s = absurd (cc)
-two-from (Some a) os rest dead m e h s =
-    let k = both-from a.0 (slot_taken a.1 dead) a.1 rest dead m refl h s in
-    record { type = k.0; below = k.1; is = k.2; stands = slot-from os a.1 a.0 dead k.0 (k.0 ∷ k.1) e k.3 k.4 }
+two-from : (a : Option (Option ValType × OperandStack)) (os rest : OperandStack) (unreachable : Bool) (m : List ValType) → operand_taken os unreachable ≡ a → two_met unreachable a ≡ Some rest → Stands rest unreachable m → Pair os unreachable m
+two-from None os rest unreachable m e h s = absurd (cc)
+two-from (Some a) os rest unreachable m e h s =
+    let k = both-from a.0 (operand_taken a.1 unreachable) a.1 rest unreachable m refl h s in
+    record { type = k.0; below = k.1; is = k.2; stands = operand-from os a.1 a.0 unreachable k.0 (k.0 ∷ k.1) e k.3 k.4 }
 
 -- a `select`
-pub selected-from : (os rest : Slots) (dead : Bool) (m : List ValType) → selected os dead ≡ Some rest → Stands rest dead m → (t : ValType) × (below : List ValType) × (m ≡ t ∷ below) × Stands os dead (I32 ∷ t ∷ t ∷ below)
-selected-from os rest dead m h s =
-    let c = bind-some (λ x. two_met dead (slot_taken x dead)) (taken I32 os dead) rest h in
-    let p = two-from (slot_taken c.0 dead) c.0 rest dead m refl c.2 s in
-    (p.type, p.below, p.is, taken-from I32 os c.0 dead (p.type ∷ p.type ∷ p.below) c.1 p.stands)
+pub selected-from : (os rest : OperandStack) (unreachable : Bool) (m : List ValType) → selected os unreachable ≡ Some rest → Stands rest unreachable m → (t : ValType) × (below : List ValType) × (m ≡ t ∷ below) × Stands os unreachable (I32 ∷ t ∷ t ∷ below)
+selected-from os rest unreachable m h s =
+    let c = bind-some (λ x. two_met unreachable (operand_taken x unreachable)) (taken I32 os unreachable) rest h in
+    let p = two-from (operand_taken c.0 unreachable) c.0 rest unreachable m refl c.2 s in
+    (p.type, p.below, p.is, taken-from I32 os c.0 unreachable (p.type ∷ p.type ∷ p.below) c.1 p.stands)
 
-pub selected-to : (t : ValType) (os : Slots) (dead : Bool) (m : List ValType) → Stands os dead (I32 ∷ t ∷ t ∷ m) → (rest : Slots) × (selected os dead ≡ Some rest) × Stands rest dead (t ∷ m)
-selected-to t os dead m s =
-    let c = taken-to I32 os dead (t ∷ t ∷ m) s in
-    let a = slot-to c.0 dead t (t ∷ m) c.2 in
-    let b = slot-to a.1 dead t m a.4 in
+pub selected-to : (t : ValType) (os : OperandStack) (unreachable : Bool) (m : List ValType) → Stands os unreachable (I32 ∷ t ∷ t ∷ m) → (rest : OperandStack) × (selected os unreachable ≡ Some rest) × Stands rest unreachable (t ∷ m)
+selected-to t os unreachable m s =
+    let c = taken-to I32 os unreachable (t ∷ t ∷ m) s in
+    let a = operand-to c.0 unreachable t (t ∷ m) c.2 in
+    let b = operand-to a.1 unreachable t m a.4 in
     let o = met-to a.0 b.0 t a.3 b.3 in (
       o.0 ∷ b.1,
-      ap (option_and_then (λ x. two_met dead (slot_taken x dead))) c.1 ∙ ap (two_met dead) a.2 ∙ ap (both_met a.0) b.2 ∙ ap (option_map (λ x. x ∷ b.1)) o.1,
+      ap (option_and_then (λ x. two_met unreachable (operand_taken x unreachable))) c.1 ∙ ap (two_met unreachable) a.2 ∙ ap (both_met a.0) b.2 ∙ ap (option_map (λ x. x ∷ b.1)) o.1,
       (o.2, b.4),
     )

@@ -18,7 +18,7 @@ use Rattle.mv_syntax.specs.declared.module.Segment.{Segment}
 use Rattle.mv_syntax.specs.declared.instr.Instr.{Instr}
 use Rattle.mv_syntax.specs.declared.instr.Instr.TheVariants as instr
 use Rattle.mv_syntax.specs.Sections.{Parts}
-use Rattle.mv_validator.specs.Slots.{same_type}
+use Rattle.mv_syntax.specs.Types.{same_type}
 use Rattle.mv_validator.specs.Faults.{lacking, unless, first_of, any_lacking, IsFirstFault}
 use Rattle.mv_validator.specs.Valid.{type_indices, type_at, context_in, IsTypedFunc, exported_count}
 

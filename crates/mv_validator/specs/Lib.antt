@@ -1,9 +1,8 @@
 pub mod Types
 pub mod Typing
 pub mod Faults
-pub mod Slots
-pub mod Levels
+pub mod OperandStack
+pub mod ControlFrames
 pub mod Views
 pub mod Valid
 pub mod Checks
-pub mod Counted

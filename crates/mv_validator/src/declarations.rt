@@ -2,14 +2,14 @@
 
 ghost use Rattle.std.specs.Prelude.{◌≡◌, ℕ, ◌<◌, ◌^◌, List, Option, Some, None, true, not, length, take, slice_get, nat_lt, if◌then◌else◌, is_some, IfOk};
 ghost use Rattle.mv_syntax.specs.Sections.{Parts};
-ghost use Rattle.mv_validator.specs.Counted.{AreCounted};
+ghost use Rattle.mv_syntax.specs.Counted.{AreCounted};
 ghost use Rattle.mv_validator.specs.Faults.{any_lacking, lacking};
 ghost use Rattle.mv_validator.specs.Valid.{type_indices, type_at, exported_count as exported};
 ghost use Rattle.mv_syntax.specs.declared.fault.ValidKind.TheVariants.{FuncIndex, TypeIndex};
 ghost use Rattle.mv_validator.specs.Checks.{GlobalInit, ExportedAs, StartOf, ElementsOf, DataOf, Tells, within as are_within, is_constant as one_constant, has_name as is_named, starts, fault_of, kind_of_export as export_kind, import_checks, function_checks, size_checks, global_checks, export_checks, start_checks, element_checks, data_checks, declaration_checks};
 
+use crate::instr_type::type_index;
 use crate::kind::unless;
-use crate::shape::type_index;
 use mv_syntax::{
     Element, Export, Global as GlobalItem, Instr, Limits, Module, Segment, ValType, ValidFault,
     ValidKind,

@@ -2,11 +2,11 @@
 
 ghost use Rattle.std.specs.Prelude.{◌≡◌, Some, None};
 ghost use Rattle.mv_validator.specs.Faults.{unless as unless_there, use_fault as use_faults};
-ghost use Rattle.mv_validator.specs.Levels.{all_open as are_open, index_fault_among, kind_among};
+ghost use Rattle.mv_validator.specs.ControlFrames.{all_open as are_open, index_fault_among, kind_among};
 ghost use Rattle.mv_validator.specs.Valid.{context_in};
 
-use crate::shape::{is_natural, local_type, type_index};
-use mv_syntax::{FuncType, Instr, Module, ValType, ValidKind};
+use crate::instr_type::{is_natural, local_type, type_index};
+use mv_syntax::{FuncType, Instr, Locals, Module, ValidKind};
 
 // The kind, where something isn't there.
 pub fn unless(kind: ValidKind, there: bool) -> Option<ValidKind>
@@ -31,7 +31,7 @@ fn all_open(labels: &[u32], depth: usize) -> bool
 fn index_fault(
     module: &Module,
     ftype: &FuncType,
-    locals: &[ValType],
+    locals: &Locals,
     depth: usize,
     instr: &Instr,
 ) -> Option<ValidKind>
@@ -71,12 +71,7 @@ fn index_fault(
 }
 
 // What the instruction names and may not use so.
-fn use_fault(
-    module: &Module,
-    ftype: &FuncType,
-    locals: &[ValType],
-    instr: &Instr,
-) -> Option<ValidKind>
+fn use_fault(module: &Module, ftype: &FuncType, locals: &Locals, instr: &Instr) -> Option<ValidKind>
     ensures { result ≡ use_faults (context_in «module».now ftype.now locals.now) instr.now }
 {
     match instr {
@@ -94,7 +89,7 @@ fn use_fault(
 pub fn kind_of(
     module: &Module,
     ftype: &FuncType,
-    locals: &[ValType],
+    locals: &Locals,
     depth: usize,
     instr: &Instr,
 ) -> ValidKind

@@ -2,12 +2,10 @@
 #![tactic(auto)]
 
 mod body;
+mod control_frame;
 mod declarations;
+mod instr_type;
 mod kind;
-mod level;
-mod shape;
-#[cfg(test)]
-mod tests;
 mod valid;
 
 pub use valid::{ValidModule, validate};

@@ -3,7 +3,7 @@
 ghost use Rattle.std.specs.Prelude.{◌≡◌, ℕ, ◌<◌, Some, None, OnOk, IfOk, IfSome, IfNone, length};
 ghost use Rattle.mv_calls.specs.Or.{IfFault, IsFault};
 ghost use Rattle.mv_syntax.specs.Tree.{IsClosedCode};
-ghost use Rattle.mv_validator.specs.Counted.{AreCounted, IsShort};
+ghost use Rattle.mv_syntax.specs.Counted.{AreCounted, IsShort};
 ghost use Rattle.mv_validator.specs.Valid.{Each, IsTypedFunc, IsValid};
 ghost use Rattle.mv_validator.specs.Checks.{BodyFails, Tells, IsFirstFaultOf, body_checks, checks};
 
@@ -52,14 +52,6 @@ impl ValidModule {
     }
 }
 
-// The lists of a module are counted by numbers of 32 bits, since some bytes spell it.
-fn counted(module: &Module)
-    ensures { AreCounted «module».now }
-{
-    // To look at a part brings up what the type keeps.
-    let _start = module.start;
-}
-
 // The first faulty instruction of the function's body, if it hasn't the type that it declares.
 fn check_func(alloc: Global, module: &Module, func: &Func) -> Result<Option<BodyFault>, AllocError>
     requires declared { func.now.ftype < length «module».now.types }
@@ -68,7 +60,7 @@ fn check_func(alloc: Global, module: &Module, func: &Func) -> Result<Option<Body
     ensures faulty { IfOk result (λ fault. IfSome fault (λ f. BodyFails «module».now func.now f.at f.kind)) }
 {
     let ftype = &module.types.slice()[func.ftype as usize];
-    check_body(alloc, module, ftype, func.locals.slice(), func.code.slice())
+    check_body(alloc, module, ftype, &func.locals, func.code.slice())
 }
 
 // The first function whose body hasn't its type.
@@ -96,7 +88,7 @@ fn check_bodies(alloc: Global, module: &Module) -> Result<Option<ValidFault>, Al
 fn first_fault(alloc: Global, module: &Module) -> Result<Option<ValidFault>, AllocError>
     ensures { IfOk result (Tells «module».now (checks «module».now)) }
 {
-    counted(module);
+    module.counted();
     module.keeps();
     if let Some(fault) = check_declarations(alloc, module)? {
         return Ok(Some(fault));

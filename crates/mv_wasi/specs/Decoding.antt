@@ -1,6 +1,6 @@
 -- What a call of an imported function becomes, one row an import (docs/FORMATS.md, "WASI calls" and "Live updates"), and what
 -- an errno that is answered at once leaves in memory.
-use Rattle.std.specs.Prelude.{ℕ, ◌+◌, ◌*◌, ◌^◌, ◌%◌, ◌==◌, Bool, true, false, ◌&&◌, ◌||◌, nat_lt, if◌then◌else◌, List, [], Option, Some, None, length, take, min}
+use Rattle.std.specs.Prelude.{ℕ, ◌*◌, ◌^◌, ◌%◌, ◌==◌, Bool, true, false, ◌&&◌, ◌||◌, nat_lt, if◌then◌else◌, List, [], Option, Some, None, length, take, min}
 use Rattle.mv_memory.specs.Bytes.{written}
 use Rattle.mv_calls.specs.declared.subs.Sub.{Sub}
 use Rattle.mv_calls.specs.declared.calls.Call.TheVariants as call

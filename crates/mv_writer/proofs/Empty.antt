@@ -3,7 +3,7 @@ use Rattle.std.proofs.Common.{zero, suc, [], refl, arith}
 use Rattle.mv_syntax.specs.Sections.{nothing_yet, sections}
 use Rattle.mv_syntax.specs.Modules.{AreBytes, HasSpelling}
 use Rattle.mv_writer.specs.Written.{written_preamble}
-use Rattle.mv_writer.specs.Placing.{preamble_made}
+use Rattle.mv_writer.proofs.Placing.{preamble_made}
 
 preamble_bytes : AreBytes written_preamble
 preamble_bytes zero = omega arith

@@ -2,7 +2,7 @@
 use Rattle.std.proofs.Common.{◌≡◌, ℕ, zero, suc, ◌+◌, ◌-◌, ◌/◌, ◌%◌, ◌^◌, ◌≤◌, ◌<◌, List, [], ◌∷◌, ◌++◌, sym, append_assoc, arith, inl, inr}
 use Rattle.std.proofs.lemmas.Bool.{cases_lt, lt-ltb, le-ltb}
 use Rattle.mv_writer.specs.Written.{short_groups, half, short_signed}
-use Rattle.mv_writer.specs.ShortSigned.{half_is}
+use Rattle.mv_writer.proofs.ShortSigned.{half_is}
 
 pub more_groups : (n v : ℕ) (bytes : List ℕ) → 1 ≤ n → 128 ≤ v → bytes ++ short_groups n v ≡ bytes ++ (128 + v % 128) ∷ [] ++ short_groups (n - 1) (v / 128)
 more_groups zero v bytes some le = absurd (omega arith)

@@ -5,8 +5,8 @@ use Rattle.mv_calls.specs.declared.fault.OutOfMemory.{OutOfMemory}
 use Rattle.mv_syntax.specs.Sections.{Parts}
 use Rattle.mv_syntax.specs.Modules.{IsSpelled, Spells, HasSpelling}
 use Rattle.mv_writer.specs.Written.{written}
-use Rattle.mv_writer.specs.Placing.{written_spells}
-use Rattle.mv_writer.specs.Shortest.{written_shortest}
+use Rattle.mv_writer.proofs.Placing.{written_spells}
+use Rattle.mv_writer.proofs.Shortest.{written_shortest}
 
 pub spelled_where_ok : (r : Result (Vec ℕ) OutOfMemory) (p : Parts) → IfOk r (λ v. v.items ≡ written p) → IfOk r (λ v. HasSpelling p) → IfOk r (λ v. length v.items ≤ 2 ^ 24 → Spells v.items p)
 spelled_where_ok (Ok v) p e h = λ small. record { small = small; spelled = subst (λ (x : List ℕ). IsSpelled x p) (sym e) (written_spells p h) }

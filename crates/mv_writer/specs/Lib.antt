@@ -1,12 +1,2 @@
-pub mod Opcodes
 pub mod Written
-pub mod OpcodeLaws
-pub mod ShortForms
-pub mod ShortSigned
-pub mod ShortImmediates
-pub mod ShortInstructions
-pub mod ShortParts
-pub mod ShortRuns
-pub mod Fitting
-pub mod Placing
-pub mod Shortest
+pub mod Writable

@@ -14,7 +14,8 @@ use Rattle.mv_syntax.specs.declared.module.Export.{Export}
 use Rattle.mv_syntax.specs.declared.module.Element.{Element}
 use Rattle.mv_syntax.specs.declared.module.Segment.{Segment}
 use Rattle.mv_syntax.specs.Sections.{Parts}
-use Rattle.mv_writer.specs.Opcodes.{opcode}
+use Rattle.mv_syntax.specs.Opcodes.{opcode}
+use Rattle.mv_syntax.specs.Types.{same_type}
 
 -- ---- 5.2.2: numbers, in groups of seven bits, the low ones first
 
@@ -139,11 +140,6 @@ written_element x = 0 ∷ written_code x.offset ++ written_vector short_u32 x.fu
 
 abbrev pub written_segment : Segment → List ℕ
 written_segment x = 0 ∷ written_code x.offset ++ behind_size x.bytes
-
-abbrev pub same_type : ValType → ValType → Bool
-same_type I32 I32 = true
-same_type I64 I64 = true
-same_type _ _ = false
 
 -- so many locals of a type before the runs of those behind them
 abbrev pub joined_to : ℕ → ValType → List (ℕ × ValType) → List (ℕ × ValType)

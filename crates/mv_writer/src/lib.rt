@@ -2,6 +2,7 @@
 #![tactic(auto)]
 
 mod instructions;
+mod laws;
 mod module;
 mod numbers;
 mod opcodes;
@@ -13,4 +14,5 @@ mod tests;
 mod types;
 mod vectors;
 
+pub use laws::writable_parts_are_spelled;
 pub use module::write_module;

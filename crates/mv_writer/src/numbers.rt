@@ -28,7 +28,7 @@ pub fn push_number(out: &mut Vec<u8>, value: u64) -> Result<(), OutOfMemory>
 }
 
 /// How many numbers of the last group of `width` bits aren't negative; `max` has all of these bits.
-#[tactic(auto, using(crate::proofs::Powers::half_is, crate::proofs::Powers::half_is_64, crate::proofs::Powers::half_least))]
+#[tactic(auto, using(mv_syntax::proofs::Powers::half_is, mv_syntax::proofs::Powers::half_is_64, mv_syntax::proofs::Powers::half_least))]
 fn half(width: u32, max: u64) -> u64
     requires max { max + 1 ≡ 2 ^ width }
     requires some { 1 ≤ width }

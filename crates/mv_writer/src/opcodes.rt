@@ -1,6 +1,6 @@
 //! Opcodes.
 ghost use Rattle.std.specs.Prelude.{◌≡◌, ◌<◌};
-ghost use Rattle.mv_writer.specs.Opcodes.{load_code as load_is, store_code as store_is, un_code as un_is, compare_number as compare_is, operation_number as operation_is, opcode as opcode_is};
+ghost use Rattle.mv_syntax.specs.Opcodes.{load_code as load_is, store_code as store_is, un_code as un_is, compare_number as compare_is, operation_number as operation_is, opcode as opcode_is};
 
 use mv_syntax::{Binary, Compare, Instr, TestOp, UnOp, ValType};
 

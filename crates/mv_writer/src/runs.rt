@@ -1,13 +1,14 @@
 //! Locals, in runs of one type.
 ghost use Rattle.std.specs.Prelude.{◌≡◌, List, [], ◌∷◌, ◌++◌, ◌==◌, if◌then◌else◌, OnOk, IfOk};
-ghost use Rattle.mv_writer.specs.Written.{same_type as is_same, runs_of as runs_are, written_run, written_body, written_func};
+ghost use Rattle.mv_syntax.specs.Types.{same_type as is_same};
+ghost use Rattle.mv_writer.specs.Written.{runs_of as runs_are, written_run, written_body, written_func};
 
 use crate::instructions::push_code;
 use crate::numbers::{push_number, push_sized};
 use crate::types::type_code;
 use crate::vectors::{Write, push_vector};
 use mv_calls::OutOfMemory;
-use mv_syntax::{Func, ValType};
+use mv_syntax::{Func, Locals, ValType};
 use std::alloc::Global;
 use std::marker::Model;
 
@@ -58,20 +59,23 @@ fn push_run(runs: &mut Vec<Run>, count: u64, vtype: ValType) -> Result<(), OutOf
 }
 
 /// The locals in runs: neighbours of one type are in one run.
-fn runs_of(alloc: Global, locals: &[ValType]) -> Result<Vec<Run>, OutOfMemory>
+fn runs_of(alloc: Global, locals: &Locals) -> Result<Vec<Run>, OutOfMemory>
     ensures { IfOk result (λ v. v.items ≡ runs_are locals.now) }
 {
     let mut runs = Vec::new(alloc);
+    let mut start = 0;
     let mut count = 0;
     let mut vtype = ValType::I32;
-    for local in locals {
-        if same_type(vtype, *local) {
-            count += 1;
+    for run in locals.runs() {
+        let more = (run.end - start) as u64;
+        if same_type(vtype, run.vtype) {
+            count += more;
         } else {
             push_run(&mut runs, count, vtype)?;
-            vtype = *local;
-            count = 1;
+            vtype = run.vtype;
+            count = more;
         }
+        start = run.end;
     }
     push_run(&mut runs, count, vtype)?;
     Ok(runs)
@@ -81,7 +85,7 @@ fn runs_of(alloc: Global, locals: &[ValType]) -> Result<Vec<Run>, OutOfMemory>
 fn push_body(alloc: Global, out: &mut Vec<u8>, func: &Func) -> Result<(), OutOfMemory>
     ensures { OnOk result (out.new.items ≡ out.old.items ++ written_body func.now) }
 {
-    let runs = runs_of(alloc, func.locals.slice())?;
+    let runs = runs_of(alloc, &func.locals)?;
     push_vector(alloc, out, &runs)?;
     push_code(alloc, out, &func.code)
 }

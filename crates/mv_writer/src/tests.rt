@@ -4,8 +4,8 @@ use crate::numbers::{push_number, push_s32, push_s64};
 use crate::vectors::Write;
 use crate::write_module;
 use mv_syntax::{
-    Code, Elements, Exports, Func, FuncTypes, Funcs, Globals, Imports, Instr, Module, Segments,
-    ValType, ValTypes,
+    Code, Elements, Exports, Func, FuncTypes, Funcs, Globals, Imports, Instr, Locals, Module,
+    Segments, ValType,
 };
 use std::test::*;
 
@@ -46,12 +46,16 @@ fn numbers_take_as_few_bytes_as_hold_them(rt: HostRuntime) -> Result<(), Fail> {
 #[test]
 fn neighbouring_locals_of_one_type_are_one_run(rt: HostRuntime) -> Result<(), Fail> {
     let alloc = rt.alloc();
-    let locals = [ValType::I32, ValType::I32, ValType::I64, ValType::I32];
+    let mut locals = Locals::new(alloc);
+    locals.push_run(1, ValType::I32)?;
+    locals.push_run(1, ValType::I32)?;
+    locals.push_run(1, ValType::I64)?;
+    locals.push_run(1, ValType::I32)?;
     let mut code = Vec::new(alloc);
     code.push(Instr::End)?;
     let func = Func {
         ftype: 0,
-        locals: ValTypes::from_vec(Vec::from_slice(alloc, &locals)?),
+        locals,
         code: Code::from_vec(code),
     };
     let mut out = Vec::new(alloc);

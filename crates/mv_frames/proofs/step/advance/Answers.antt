@@ -1,7 +1,8 @@
 use Rattle.std.proofs.Common.{◌∙◌, sym, arith, subst}
+use Rattle.mv_execution.specs.Rows.{CameTo}
 use Rattle.std.specs.Prelude.{IfOk}
 use Rattle.mv_frames.specs.Frames.{frame_of}
-use Rattle.mv_frames.specs.Stores.{store_of, CameTo}
+use Rattle.mv_frames.specs.Stores.{store_of}
 use Rattle.mv_frames.proofs.Advances.{at-within}
 use Rattle.mv_frames.proofs.Plain.{going-top, begins-some, behind-plain, acts-of}
 use Rattle.mv_frames.proofs.step.advance.Goals as goal

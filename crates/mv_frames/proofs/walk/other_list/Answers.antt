@@ -1,6 +1,6 @@
 use Rattle.std.proofs.Common.{arith, ◌≡◌, ◌∙◌, ap, sym, Some, false}
 use Rattle.mv_syntax.specs.Tree.{ends_list}
-use Rattle.mv_syntax.specs.TreeLaws.{list_step, depth-below}
+use Rattle.mv_syntax.proofs.TreeLaws.{list_step, depth-below}
 use Rattle.mv_frames.proofs.walk.other_list.Goals as goal
 use Rattle.mv_frames.proofs.walk.other_list.Goals.{else-inner-eq0-via-then-inner-eq0+else-is_list_end, else-inner-eq0-via-else-inner-eq0}
 

@@ -1,5 +1,5 @@
 use Rattle.std.proofs.Common.{arith, ◌∙◌, ap, sym, Some}
-use Rattle.mv_syntax.specs.TreeLaws.{walk_step, depth-below}
+use Rattle.mv_syntax.proofs.TreeLaws.{walk_step, depth-below}
 use Rattle.mv_frames.proofs.walk.past_ends.Goals as goal
 
 pub depth_after-depth-requires-clause-below : goal.depth_after-depth-requires-clause-below

@@ -1,4 +1,4 @@
-use Rattle.std.proofs.Common.{◌≡◌, ◌∙◌, sym, subst, arith}
+use Rattle.std.proofs.Common.{◌∙◌, sym, subst, arith}
 use Rattle.mv_wasi.specs.Known.{AreKnown}
 use Rattle.mv_guest.proofs.Meets.{some-of, none-of, fewer-of}
 use Rattle.mv_guest.proofs.advance.next_event.Goals as goal

@@ -1,4 +1,5 @@
 use Rattle.std.proofs.Common.{◌≡◌, ◌∙◌, ◌+◌, ◌-◌, ◌<◌, ℕ, Option, Bool, true, false, length, get_or, refl, sym, ap, subst, arith}
+use Rattle.mv_execution.specs.Rows.{IsGoing, CameTo}
 use Rattle.std.specs.Vec.{with_item}
 use Rattle.mv_calls.specs.declared.trap.Trap.{Trap}
 use Rattle.mv_syntax.specs.declared.instr.Instr.{Instr}
@@ -10,11 +11,11 @@ use Rattle.mv_frames.specs.Blocks.{advanced_frame}
 use Rattle.mv_frames.specs.Frames.{frame_of, IsPlaced}
 use Rattle.mv_frames.specs.declared.frame.Frame.{Frame}
 use Rattle.mv_frames.specs.declared.store.Store.{Store}
-use Rattle.mv_frames.specs.Stores.{store_of, IsGoing, CameTo as FrameCameTo}
+use Rattle.mv_frames.specs.Stores.{store_of}
 use Rattle.mv_frames.proofs.Advances.{at-within}
 use Rattle.mv_machine.specs.declared.state.State.{State}
 use Rattle.mv_machine.specs.States.{code_at, config_of, IsFine}
-use Rattle.mv_machine.specs.Turns.{AreReady, CameTo, counted_step}
+use Rattle.mv_machine.specs.Turns.{AreReady, counted_step}
 use Rattle.mv_machine.proofs.Newest.{Newest, newest, code-get, newest-placed, get_or-same, some-calls, on_err-always}
 use Rattle.mv_machine.proofs.Written.{Written, same-config}
 use Rattle.mv_machine.proofs.Moves.{Before, before, runs, full-traps, counted-on, counted-same, came, came-fine, same-fine}
@@ -95,7 +96,7 @@ module _ (c : After-slice-code) (store : Store) (g : Frame) (func : g.func ≡ c
       (same-config p s n f (call c) new g w func e.0 same, same-fine p s n f (call c) c.requires.fine (stands c) c.requires.ready.waiting new g w func here counted e.0 same)
 
   -- the instruction went on, or it trapped
-  ends : (k : ℕ) (o : Option Trap) → FrameCameTo o (advanced_frame (store_of c.args.state.now.store) (frame_of c.slice-code.result.now c.index_mut-frame.result.now)) (store_of c.args.state.now.store, frame_of c.slice-code.result.now c.index_mut-frame.result.now) (store_of store, frame_of c.slice-code.result.now g) → k ≡ c.args.state.now.operands - length c.index_mut-frame.result.now.operands.items + length g.operands.items → (leaves_more (stands c).instr ≡ true → c.args.state.now.operands < operand_limit) → CameTo o (counted_step (program_of c.args.module.now) (config_of c.args.module.now c.args.state.now)) (config_of c.args.module.now c.args.state.now) (config_of c.args.module.now (moved c store g k)) × IsFine c.args.module.now (moved c store g k)
+  ends : (k : ℕ) (o : Option Trap) → CameTo o (advanced_frame (store_of c.args.state.now.store) (frame_of c.slice-code.result.now c.index_mut-frame.result.now)) (store_of c.args.state.now.store, frame_of c.slice-code.result.now c.index_mut-frame.result.now) (store_of store, frame_of c.slice-code.result.now g) → k ≡ c.args.state.now.operands - length c.index_mut-frame.result.now.operands.items + length g.operands.items → (leaves_more (stands c).instr ≡ true → c.args.state.now.operands < operand_limit) → CameTo o (counted_step (program_of c.args.module.now) (config_of c.args.module.now c.args.state.now)) (config_of c.args.module.now c.args.state.now) (config_of c.args.module.now (moved c store g k)) × IsFine c.args.module.now (moved c store g k)
   ends k o e is room =
       let p = c.args.module.now in
       let s = c.args.state.now in
@@ -104,7 +105,7 @@ module _ (c : After-slice-code) (store : Store) (g : Frame) (func : g.func ≡ c
       let new = moved c store g k in
       let w : Written s new n g = record { frames = refl; waiting = refl; given = refl; gap = refl } in
       let here = subst (λ x. IsPlaced x g) (code c) placed in
-      let there = subst (λ x. FrameCameTo o (advanced_frame (store_of s.store) (frame_of x f)) (store_of s.store, frame_of x f) (store_of store, frame_of x g)) (code c) e in
+      let there = subst (λ x. CameTo o (advanced_frame (store_of s.store) (frame_of x f)) (store_of s.store, frame_of x f) (store_of store, frame_of x g)) (code c) e in
       let counted = counted-on p s n f (call c) c.requires.fine (stands c) g k is in
       (came p s n f (call c) c.requires.fine (stands c) c.requires.ready.waiting new g w func here counted o there room, came-fine p s n f (call c) c.requires.fine (stands c) c.requires.ready.waiting new g w func here counted o there room)
 

@@ -1,5 +1,5 @@
 use Rattle.std.proofs.Common.{◌≡◌, drop}
-use Rattle.mv_execution.specs.Values.{same_types}
+use Rattle.mv_syntax.specs.Types.{same_types}
 use Rattle.mv_machine.proofs.calls.are_same_types.Given as goal
 
 abbrev pub invariant-loop-index : goal.invariant-loop-index

@@ -1,4 +1,5 @@
 use Rattle.std.proofs.Common.{◌≡◌, ◌∙◌, ℕ, ◌<◌, ◌∷◌, List, length, refl, ap, sym, arith, get_or, subst, map, Bool, true, Some}
+use Rattle.mv_execution.specs.Rows.{IsGoing}
 use Rattle.std.specs.Prelude.{slice_get}
 use Rattle.std.proofs.lemmas.List.{length-reverse}
 use Rattle.std.proofs.lemmas.Option.{slice_get_within, slice_get_read, slice_get_past}
@@ -7,19 +8,19 @@ use Rattle.mv_syntax.specs.declared.instr.Instr.{Instr}
 use Rattle.mv_syntax.specs.declared.instr.Instr.TheVariants.{CallIndirect}
 use Rattle.mv_syntax.specs.Sections.{Parts}
 use Rattle.mv_execution.specs.Config.{Function}
-use Rattle.mv_execution.specs.Values.{same_function_type}
+use Rattle.mv_syntax.specs.Types.{same_function_type}
 use Rattle.mv_execution.specs.Step.{called_entry}
 use Rattle.mv_execution.specs.Instance.{program_of}
 use Rattle.mv_execution.specs.Fits.{module_context}
 use Rattle.mv_frames.specs.declared.frame.Frame.{Frame as FlatFrame}
 use Rattle.mv_machine.specs.States.{call_of, config_of}
-use Rattle.mv_machine.specs.Turns.{IsGoing, counted_step}
+use Rattle.mv_machine.specs.Turns.{counted_step}
 use Rattle.mv_machine.specs.Calls.{call_above, IsAtIn}
 use Rattle.mv_machine.proofs.Newest.{Newest, newest}
 use Rattle.mv_machine.proofs.Entries.{StandsAt, caller_of, at-some, at-newest, stands-at, fine-step, fits-going}
 use Rattle.mv_machine.proofs.Tables.{Through, caller_behind, step-through, step-entry, step-differs, step-same, entry-function, function-there, came-same}
 use Rattle.mv_machine.proofs.calls.call_indirect.Goals as goal
-use Rattle.mv_machine.proofs.calls.call_indirect.Goals.{After-index, After-top-place, After-index-2, After-slice, After-index-slice-y}
+use Rattle.mv_machine.proofs.calls.call_indirect.Goals.{After-index, After-index-2, After-slice, After-index-slice-y}
 
 abbrev At : ℕ → Instr → FlatFrame → Type 0
 At y i f = i ≡ CallIndirect y
@@ -142,7 +143,7 @@ call_function-requires-clause-going c =
     let p = c.args.module.now in
     let old-state = c.args.state.now in
     let is = step-is (goal.at.call_function-requires-clause-going c).After-index-slice-y c.function_type.result.now c.is_same_function_type.result c.function_type.ensures c.is_same_function_type.ensures c.if-not-is_same_function_type.false in
-    subst IsGoing is (fits-going (module_context p) (counted_step (program_of p) (config_of p old-state)) (fine-step p old-state c.requires.fine c.requires.ready))
+    subst IsGoing is (fits-going (module_context p) c.requires.fine.gives (counted_step (program_of p) (config_of p old-state)) (fine-step p old-state c.requires.fine c.requires.ready))
 
 pub returns-clause-ok : goal.returns-clause-ok
 returns-clause-ok c =

@@ -14,7 +14,7 @@ use Rattle.mv_execution.specs.Step.{entry_frame}
 use Rattle.mv_execution.specs.Fits.{module_context}
 use Rattle.mv_execution.proofs.Steps.{StepFits}
 use Rattle.mv_execution.specs.Instance.{defined, program_of, tree_of}
-use Rattle.mv_frames.specs.Blocks.{is_plain}
+use Rattle.mv_syntax.specs.Expressions.{is_plain}
 use Rattle.mv_frames.specs.declared.frame.Frame.{Frame as FlatFrame}
 use Rattle.mv_frames.specs.Frames.{IsPlaced}
 use Rattle.mv_frames.proofs.Advances.{at-within}
@@ -24,7 +24,7 @@ use Rattle.mv_machine.proofs.Newest.{Newest, newest, newest-placed, operands-are
 use Rattle.mv_machine.proofs.Signatures.{func-at}
 use Rattle.mv_machine.proofs.Entries.{StandsAt, IsEntry, Caller, at-some, at-newest, stands-at, arguments-there, closed-code, written-under, enter-goes, entered-operands, entered-placed, fine-step, fits-next, given-none}
 use Rattle.mv_machine.proofs.calls.enter_call.Goals as goal
-use Rattle.mv_machine.proofs.calls.enter_call.Goals.{After-index-caller, After-len, After-index_mut, After-go_behind}
+use Rattle.mv_machine.proofs.calls.enter_call.Goals.{After-index-caller, After-len, After-index_mut}
 
 abbrev Above : ℕ → Instr → FlatFrame → Type 0
 Above above i f = (is_plain i ≡ true) × (above ≤ length f.operands.items)
@@ -176,13 +176,14 @@ returns-clause-fine c =
     let h = c.go_behind.new.call in
     let m = moved b h c.go_behind.ensures.same c.go_behind.ensures.operands in
     let fine = c.requires.fine in
-    let step = subst (StepFits (module_context p)) c.requires.step (fine-step p c.args.state.now fine c.requires.ready) in
+    let step = subst (StepFits (module_context p) fine.gives) c.requires.step (fine-step p c.args.state.now fine c.requires.ready) in
     let ops = entered-operands p c.args.state.now c.len-newest.result f (caller s) (at s).0 (stood s) c.args.x c.args.above c.index-slice-func.result (callee-is s) c.in_ok-call.call h (first b) (omega (arith, sum b)) (entry b) (code-new b) m (calls b h) (listed b h) in
     let was = operands-are p.funcs c.args.state.now.frames.items c.len-newest.result f (caller s) in
     let all = ap (λ (l : List FlatFrame). length l) (listed b h) in
     record {
       program = fine.program;
-      typed = fits-next (module_context p) (call_above (program_of p) c.args.x c.args.above (config_of p c.args.state.now)) (record (config_of p c.args.state.now) { frames = calls_of p.funcs (calls b h) }) (goes b h m) step;
+      gives = fine.gives;
+      typed = fits-next (module_context p) fine.gives (call_above (program_of p) c.args.x c.args.above (config_of p c.args.state.now)) (record (config_of p c.args.state.now) { frames = calls_of p.funcs (calls b h) }) (goes b h m) step;
       placed = subst (ArePlacedIn p.funcs) (sym (listed b h)) (entered-placed p f c.in_ok-call.call h (caller s).older (first b) (c.args.x - length c.slice.result.now) (at s).0 c.index-slice-func.result (stood s) (placed s) m c.in_ok-call.ensures.func (omega (arith, within s, imports-are s)) (code-is s) c.in_ok-call.ensures.placed);
       counted = omega (arith, ops, was, fine.counted, sum b, count-is (goal.at.returns-clause-fine c).After-len);
       operands = omega (arith, fine.operands);

@@ -9,7 +9,7 @@ use Rattle.mv_machine.specs.Calls.{returned_from}
 use Rattle.mv_machine.proofs.Newest.{Newest, newest, last-listed, calls-are, Pair, pair, get_or-same, some-calls, on_err-always}
 use Rattle.mv_machine.proofs.Leaves.{newest-ended, given-count, returned-fine, kept-config, kept-fine, ended-config, ended-fine}
 use Rattle.mv_machine.proofs.calls.leave_call.Goals as goal
-use Rattle.mv_machine.proofs.calls.leave_call.Goals.{After-index, After-index_mut, After-given_by-value, in-Some+in_ok-push, in_default}
+use Rattle.mv_machine.proofs.calls.leave_call.Goals.{After-index, in-Some+in_ok-push, in_default}
 
 -- the newest call
 some : (c : After-index) → 0 < length c.args.state.now.frames.items

@@ -12,7 +12,7 @@ use Rattle.mv_execution.specs.Rows.{Goes}
 use Rattle.mv_execution.specs.Instance.{imported, program_of}
 use Rattle.mv_execution.specs.Fits.{FitsConfig, module_context}
 use Rattle.mv_execution.proofs.Steps.{StepFits}
-use Rattle.mv_frames.specs.Blocks.{is_plain}
+use Rattle.mv_syntax.specs.Expressions.{is_plain}
 use Rattle.mv_frames.specs.Frames.{frame_of, IsPlaced}
 use Rattle.mv_frames.specs.declared.frame.Frame.{Frame as FlatFrame}
 use Rattle.mv_frames.proofs.Advances.{at-within}
@@ -107,7 +107,8 @@ returns-in_err-reserve-clause-fine c =
     let same = same-calls s g refl c.reserve.ensures.items in
     record {
       program = fine.program;
-      typed = subst (λ l. FitsConfig (module_context p) (record (config_of p c.args.state.now) { frames = l })) (sym same) fine.typed;
+      gives = fine.gives;
+      typed = subst (λ l. FitsConfig (module_context p) fine.gives (record (config_of p c.args.state.now) { frames = l })) (sym same) fine.typed;
       placed = placed-written p.funcs fs c.len-newest.result f (caller s) g fine.placed refl (placed s).1;
       counted = fine.counted ∙ ap operand_count (sym same);
       operands = fine.operands;
@@ -178,7 +179,7 @@ returns-clause-fine c =
     let fine = c.requires.fine in
     let m = moved l h c.go_behind.ensures.same c.go_behind.ensures.operands in
     let calls = set fs (c.len-newest.result - 1) h in
-    let step = subst (StepFits (module_context p)) c.requires.step (fine-step p c.args.state.now fine c.requires.ready) in
+    let step = subst (StepFits (module_context p) fine.gives) c.requires.step (fine-step p c.args.state.now fine c.requires.ready) in
     let here = caller-placed p f h (length f.operands.items - c.args.above) (at s).0 (stood s) (placed s).0 m in
     let kept = ap (λ (x : List ℕ). length x) m.operands in
     let was = operands-are p.funcs fs c.len-newest.result f (caller s) in
@@ -189,7 +190,8 @@ returns-clause-fine c =
     let fits : length h.operands.items + operands_in (caller s).older + arity_of c.function_type-ftype.result.now.result ≤ operand_limit + length c.function_type-ftype.result.now.params = omega (arith, count-is e, results-is e, ap (λ (t : FuncType). length t.params) (ftype-is e), ap (λ (t : FuncType). arity_of t.result) (ftype-is e), c.if-left-slice-gt-OPERAND_LIMIT.false, was, fine.counted, kept, (at s).2.1, length-take (length f.operands.items - c.args.above) f.operands.items, operands-in-are p.funcs (caller s).older) in
     record {
       program = fine.program;
-      typed = fits-next (module_context p) (call_above (program_of p) c.args.x c.args.above (config_of p c.args.state.now)) (record (config_of p c.args.state.now) { frames = calls_of p.funcs calls; waiting = Some c.args.x }) (goes l h m) step;
+      gives = fine.gives;
+      typed = fits-next (module_context p) fine.gives (call_above (program_of p) c.args.x c.args.above (config_of p c.args.state.now)) (record (config_of p c.args.state.now) { frames = calls_of p.funcs calls; waiting = Some c.args.x }) (goes l h m) step;
       placed = subst (ArePlacedIn p.funcs) (sym ((caller s).written h)) (here.0, here.1, (placed s).2);
       counted = omega (arith, was, is, kept, fine.counted, (at s).2.1, length-take (length f.operands.items - c.args.above) f.operands.items);
       operands = omega (arith, fine.operands);

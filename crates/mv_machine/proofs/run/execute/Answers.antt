@@ -3,7 +3,7 @@ use Rattle.mv_syntax.specs.Sections.{Parts}
 use Rattle.mv_syntax.specs.declared.module.Func.{Func}
 use Rattle.mv_syntax.specs.declared.instr.Instr.{Instr}
 use Rattle.mv_syntax.specs.declared.instr.Instr.TheVariants.{CallIndirect}
-use Rattle.mv_frames.specs.Blocks.{is_plain}
+use Rattle.mv_syntax.specs.Expressions.{is_plain}
 use Rattle.mv_machine.specs.States.{code_at, config_of}
 use Rattle.mv_machine.specs.Calls.{calls_nothing}
 use Rattle.mv_machine.proofs.Newest.{Newest, newest, newest-placed, code-get}

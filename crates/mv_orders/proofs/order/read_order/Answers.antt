@@ -1,6 +1,6 @@
 use Rattle.std.proofs.Common.{rules, ◌≡◌, map, subst, arith, ap, ◌∙◌, List, ℕ}
 use Rattle.std.specs.Prelude.{IsUtf8}
-use Rattle.mv_orders.specs.Answers.{Answers}
+use Rattle.mv_orders.specs.Answers.{AllowsAnswer}
 use Rattle.mv_orders.specs.Order.{Reads, ReadsWords}
 use Rattle.mv_orders.proofs.PathTexts.{answered_paths}
 use Rattle.mv_orders.proofs.Words.{cut, line_reads, answers_ok, answers_fault}
@@ -12,7 +12,7 @@ returns-clause-order c =
     let words : map (λ w. w.now) c.as_slice.result.now ≡ cut line = ap (map (λ w. w.now)) c.as_slice.ensures.value ∙ c.in_ok-words.ensures in
     let text : IsUtf8 line = search rules in
     answers_ok (Reads line) c.order_from_words.result
-    (line_reads line c.order_from_words.result (omega arith) text (subst (λ (ws : List (List ℕ)). Answers (ReadsWords ws) c.order_from_words.result) words c.order_from_words.ensures))
+    (line_reads line c.order_from_words.result (omega arith) text (subst (λ (ws : List (List ℕ)). AllowsAnswer (ReadsWords ws) c.order_from_words.result) words c.order_from_words.ensures))
 
 pub returns-clause-refused : goal.returns-clause-refused
 returns-clause-refused c =
@@ -20,7 +20,7 @@ returns-clause-refused c =
     let words : map (λ w. w.now) c.as_slice.result.now ≡ cut line = ap (map (λ w. w.now)) c.as_slice.ensures.value ∙ c.in_ok-words.ensures in
     let text : IsUtf8 line = search rules in
     answers_fault (Reads line) c.order_from_words.result
-    (line_reads line c.order_from_words.result (omega arith) text (subst (λ (ws : List (List ℕ)). Answers (ReadsWords ws) c.order_from_words.result) words c.order_from_words.ensures))
+    (line_reads line c.order_from_words.result (omega arith) text (subst (λ (ws : List (List ℕ)). AllowsAnswer (ReadsWords ws) c.order_from_words.result) words c.order_from_words.ensures))
 
 pub returns-clause-paths : goal.returns-clause-paths
 returns-clause-paths c = answered_paths c.args.line.now c.order_from_words.result (returns-clause-order c)

@@ -1,4 +1,4 @@
-use Rattle.mv_syntax.specs.ModuleLaws.{module_sound, module_complete}
+use Rattle.mv_syntax.proofs.ModuleLaws.{module_sound, module_complete}
 use Rattle.mv_syntax.proofs.laws.a_file_is_one_module_or_faulty.Goals as goal
 
 pub returns : goal.returns

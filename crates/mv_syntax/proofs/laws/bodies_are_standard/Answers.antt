@@ -1,4 +1,4 @@
-use Rattle.mv_syntax.specs.ExpressionLaws.{bodies_law}
+use Rattle.mv_syntax.proofs.ExpressionLaws.{bodies_law}
 use Rattle.mv_syntax.proofs.laws.bodies_are_standard.Goals as goal
 
 pub returns : goal.returns

@@ -1,5 +1,5 @@
 use Rattle.std.proofs.Common.{◌≡◌, drop}
-use Rattle.mv_validator.specs.Levels.{all_open}
+use Rattle.mv_validator.specs.ControlFrames.{all_open}
 use Rattle.mv_validator.proofs.kind.all_open.Given as goal
 
 abbrev pub invariant-loop-label : goal.invariant-loop-label

@@ -1,5 +1,5 @@
 use Rattle.std.proofs.Common.{subst}
-use Rattle.mv_validator.specs.Counted.{IsShort}
+use Rattle.mv_syntax.specs.Counted.{IsShort}
 use Rattle.mv_syntax.specs.Kept.{IsSoundFunc}
 use Rattle.mv_validator.specs.Checks.{declaration_checks, body_checks, data_checks, Tells}
 use Rattle.mv_validator.proofs.Scans.{fails-left, fails-right, tells-right, passed}

@@ -1,5 +1,5 @@
 use Rattle.std.proofs.Common.{◌<◌, sym, arith}
-use Rattle.mv_writer.proofs.Powers.{seven_less}
+use Rattle.mv_syntax.proofs.Powers.{seven_less}
 use Rattle.mv_writer.proofs.Groups.{wide, more_signed}
 use Rattle.mv_writer.proofs.numbers.+push_signed.Goals as goal
 

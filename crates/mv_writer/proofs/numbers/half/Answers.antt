@@ -1,5 +1,5 @@
 use Rattle.std.proofs.Common.{arith}
-use Rattle.mv_writer.proofs.Powers.{half_fits, half_least}
+use Rattle.mv_syntax.proofs.Powers.{half_fits, half_least}
 use Rattle.mv_writer.proofs.numbers.half.Goals as goal
 
 pub returns-then-width-lt7-clause-fits : goal.returns-then-width-lt7-clause-fits

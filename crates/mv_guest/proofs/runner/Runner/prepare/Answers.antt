@@ -1,4 +1,4 @@
-use Rattle.std.proofs.Common.{◌≡◌, ◌∙◌, Some}
+use Rattle.std.proofs.Common.{◌∙◌, Some}
 use Rattle.mv_guest.specs.Running.{stands_of}
 use Rattle.mv_guest.proofs.RunnerLaws.{prepare-waits, prepare-made, prepare-running, prepare-same}
 use Rattle.mv_guest.proofs.runner.Runner.prepare.Goals as goal

@@ -1,6 +1,6 @@
 use Rattle.std.proofs.Common.{subst}
 use Rattle.mv_syntax.specs.Kept.{Keeps}
-use Rattle.mv_syntax.specs.KeptLaws.{spelled_keeps}
+use Rattle.mv_syntax.proofs.KeptLaws.{spelled_keeps}
 use Rattle.mv_syntax.proofs.module.Module.keeps.Goals as goal
 
 pub returns : goal.returns
